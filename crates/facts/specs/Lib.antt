@@ -1,0 +1,4 @@
+pub mod Meaning
+pub mod Closure
+pub mod Steps
+pub mod Told
