@@ -23,14 +23,14 @@ passed-line C a b g l up only needed obeyed = record {
 }
 
 -- One pass after another, over the rows of both.
-pub passed-then : (C D E : ℕ → Type 0) (s a b : ℕ) → IsLines s → ((c : ℕ) → E c → C c × D c) → ((c : ℕ) → C c → D c → E c) → Passed C s a → Passed D a b → Passed E s b
-passed-then C D E s a b l parts both p q = record {
+pub passed-then : (C D E : ℕ → Type 0) (s a b : ℕ) → ((c : ℕ) → E c → C c × D c) → ((c : ℕ) → C c → D c → E c) → Passed C s a → Passed D a b → Passed E s b
+passed-then C D E s a b parts both p q = record {
   lines = q .lines;
   grows = λ n h. q .grows n (p .grows n h);
   inside = λ c k e w. q .inside c k (parts c e .1) (p .inside c k (parts c e .0) w);
   done = λ e.
       let back : Within a s = λ n h. subst (λ x. Has x n) e (q .grows n h) in
-      let same : a ≡ s = same-lines a s (p .lines) l back (p .grows) in
+      let same : a ≡ s = same-lines a s back (p .grows) in
       both s (p .done same) (subst D same (q .done (e ∙ sym same)));
 }
 
@@ -85,11 +85,11 @@ module _ (m : Meaning) (lawful : Lawful m) (C : ℕ → Type 0) (start : ℕ) wh
         still : m .follow a ≡ s
         still = sym followed ∙ e
         same : a ≡ s
-        same = same-lines a s (passed .lines) (at .lines) (λ n h. subst (λ x. Has x n) still (lawful .keeps a (passed .lines) n h)) (passed .grows)
+        same = same-lines a s (λ n h. subst (λ x. Has x n) still (lawful .keeps a (passed .lines) n h)) (passed .grows)
 
     -- any other turn leaves less to add
     pub reached-less : r ≢ s → 2 ^ 64 - r < 2 ^ 64 - s
     reached-less other =
-        let grown : s ≤ m .follow a = within-le s (m .follow a) (at .lines) (λ n h. lawful .keeps a (passed .lines) n (passed .grows n h)) in
+        let grown : s ≤ m .follow a = within-le s (m .follow a) (λ n h. lawful .keeps a (passed .lines) n (passed .grows n h)) in
         let room : s < 2 ^ 64 = at .lines in
         omega arith

@@ -14,7 +14,7 @@ use Rattle.std.proofs.shelf.Ways.{decides-eqb, not-from-decides}
 use Rattle.std.specs.shelf.Lists.{All}
 use Rattle.sets.specs.Sets.{Has, Within, IsLines, Smallest}
 use Rattle.sets.proofs.Lines.{or-has, or-has-left, or-has-right, single-has, single-only, within-from-and, and-from-within, same-lines, smallest-like, or-group}
-use Rattle.sets.proofs.Rows.{all-at, all-front, all-drop, all-push, all-pushed}
+use Rattle.sets.proofs.Rows.{all-front, all-push, all-pushed}
 use Rattle.facts.specs.Meaning.{Meaning, Lawful}
 use Rattle.facts.specs.Steps.{IsStep, no-step, Obeys, Closed, Follows, lines-of, pass, settle, stepped}
 use Rattle.facts.specs.Told.{told}
@@ -43,13 +43,13 @@ one-pass x s is l = by (eqb (bitAnd (x .needs) s) (x .needs)) refl
           (or-has-right s (2 ^ x .gives) (x .gives) (single-has (x .gives)))
           (λ n h. ⊎-elim inl (λ k. inr (single-only (x .gives) n k)) (or-has s (2 ^ x .gives) n h))
     by false e =
-        passed-rests x s l (λ w. not-from-decides _ (decides-eqb (bitAnd (x .needs) s) (x .needs)) e (and-from-within (x .needs) s (is .0) l w))
+        passed-rests x s l (λ w. not-from-decides _ (decides-eqb (bitAnd (x .needs) s) (x .needs)) e (and-from-within (x .needs) s w))
 
 pass-passed : (steps : List Step) (s : ℕ) → All IsStep steps → IsLines s → Passed (λ c. All (Obeys c) steps) s (pass steps s)
 pass-passed [] s is l = passed-none (λ c. Unit {0}) s l tt
 pass-passed (x ∷ xs) s is l =
     let first = one-pass x s (is .0) l in
-    passed-then (λ c. Obeys c x) (λ c. All (Obeys c) xs) (λ c. Obeys c x × All (Obeys c) xs) s _ _ l (λ c e. e) (λ c o os. (o, os)) first
+    passed-then (λ c. Obeys c x) (λ c. All (Obeys c) xs) (λ c. Obeys c x × All (Obeys c) xs) s _ _ (λ c e. e) (λ c o os. (o, os)) first
       (pass-passed xs _ (is .1) (first .lines))
 
 -- the set obeys each of the steps
@@ -107,7 +107,7 @@ module _ (m : Meaning) (lawful : Lawful m) (steps : List Step) (are : All IsStep
   named-closed : (s : ℕ) → IsLines s → Closed m steps s (bitOr s (bitOr (m .names) (lines-of steps)))
   named-closed s l = record {
     starts = λ n h. or-has-left s named n h;
-    left = same-lines (m .follow all) all (lawful .follow-lines all lines) lines
+    left = same-lines (m .follow all) all
         (λ n h. ⊎-elim (λ k. k) (λ k. or-has-right s named n (or-has-left (m .names) (lines-of steps) n k)) (or-has all (m .names) n (lawful .named all lines n h)))
         (lawful .keeps all lines);
     obeys = obeys-named steps all (λ n h. or-has-right s named n (or-has-right (m .names) (lines-of steps) n h));
@@ -126,7 +126,7 @@ module _ (m : Meaning) (lawful : Lawful m) (steps : List Step) (are : All IsStep
     follow-lines = λ s l. follows s l .lines;
     keeps = λ s l. follows s l .has .starts;
     monotone = λ s t l k w. follows s l .least (after t) (follows t k .lines) (from s t k w);
-    settled = λ s l. same-lines (after (after s)) (after s) (follows (after s) (follows s l .lines) .lines) (follows s l .lines)
+    settled = λ s l. same-lines (after (after s)) (after s)
         (follows (after s) (follows s l .lines) .least (after s) (follows s l .lines) (again s l))
         (follows (after s) (follows s l .lines) .has .starts);
     named = λ s l. follows s l .least (bitOr s (bitOr (m .names) (lines-of steps))) (or-lt 64 s _ l named-lines) (named-closed s l);
@@ -146,22 +146,20 @@ module _ (m : Meaning) (lawful : Lawful m) (steps : List Step) (are : All IsStep
       again s l = record { starts = λ n h. h; left = follows s l .has .left; obeys = follows s l .has .obeys }
 
 -- one step more was passed over
-pub pass-more : (steps : List Step) (i s a b : ℕ) → IsLines s → i < length steps → Passed (ObeysAll (take i steps)) s a → Passed (λ c. Obeys c (getD steps i no-step)) a b → Passed (ObeysAll (take (i + 1) steps)) s b
-pass-more steps i s a b l lt p q =
+pub pass-more : (steps : List Step) (i s a b : ℕ) → i < length steps → Passed (ObeysAll (take i steps)) s a → Passed (λ c. Obeys c (getD steps i no-step)) a b → Passed (ObeysAll (take (i + 1) steps)) s b
+pass-more steps i s a b lt p q =
     let x = getD steps i no-step in
     let front : take (i + 1) steps ≡ take i steps ++ x ∷ [] = take-more steps i no-step lt in
     subst (λ ys. Passed (ObeysAll ys) s b) (sym front)
-      (passed-then (ObeysAll (take i steps)) (λ c. Obeys c x) (ObeysAll (take i steps ++ x ∷ [])) s a b l
+      (passed-then (ObeysAll (take i steps)) (λ c. Obeys c x) (ObeysAll (take i steps ++ x ∷ [])) s a b
         (λ c all. all-pushed (Obeys c) (take i steps) x all) (λ c all here. all-push (Obeys c) (take i steps) x all here) p q)
 
 -- one step more was named
-pub named-more : (steps : List Step) (i all : ℕ) → All IsStep steps → i < length steps → IsLines all → bitOr all (lines-of (drop i steps)) ≡ bitOr (bitOr all (bitOr (getD steps i no-step .needs) (2 ^ getD steps i no-step .gives))) (lines-of (drop (i + 1) steps))
-named-more steps i all are lt l =
+pub named-more : (steps : List Step) (i all : ℕ) → i < length steps → bitOr all (lines-of (drop i steps)) ≡ bitOr (bitOr all (bitOr (getD steps i no-step .needs) (2 ^ getD steps i no-step .gives))) (lines-of (drop (i + 1) steps))
+named-more steps i all lt =
     let x = getD steps i no-step in
-    let is = all-at IsStep steps i no-step are lt in
-    let own : IsLines (bitOr (x .needs) (2 ^ x .gives)) = or-lt 64 (x .needs) (2 ^ x .gives) (is .0) (pow-below (x .gives) 64 (is .1)) in
     ap (λ ys. bitOr all (lines-of ys)) (drop-more steps i no-step lt)
-      ∙ sym (or-group all (bitOr (x .needs) (2 ^ x .gives)) (lines-of (drop (i + 1) steps)) l own (lines-of-lines (drop (i + 1) steps) (all-drop IsStep (i + 1) steps are)))
+      ∙ sym (or-group all (bitOr (x .needs) (2 ^ x .gives)) (lines-of (drop (i + 1) steps)))
 
 -- what was told to facts of steps are steps
 pub told-are : {F : Type 0} (f : Steps F) → All IsStep (told f)

@@ -210,8 +210,8 @@ done-turn u g left rest e k l p s =
 -- ---- guesses and the sets that they pick
 
 -- what a guess picks is one set
-pub picks-same : (u g e d : ℕ) → IsLines e → IsLines d → Picks u g e → Picks u g d → e ≡ d
-picks-same u g e d l m p q = same-lines e d l m (over e d p q) (over d e q p)
+pub picks-same : (u g e d : ℕ) → Picks u g e → Picks u g d → e ≡ d
+picks-same u g e d p q = same-lines e d (over e d p q) (over d e q p)
   where
     over : (e d : ℕ) → Picks u g e → Picks u g d → Within e d
     over e d p q n h = q .back n (p .part n h) (p .into n (p .part n h) h)

@@ -3,7 +3,7 @@ use mathlib.Core.Path.{_≡_, refl}
 use mathlib.Core.List.{List, [], _∷_, _++_}
 use Prim.Native.Nat.{ℕ, zero, suc, _<_}
 use native.Mathlib.Omega.{arith}
-use lib.ListN.{length, getD, set, take, drop, replicate}
+use lib.ListN.{length, getD, set, take, replicate}
 use Rattle.std.specs.shelf.Lists.{All}
 
 -- what holds of each row and of the one written holds of each row after
@@ -20,7 +20,7 @@ replicate-each zero a j = refl
 replicate-each (suc n) a zero = refl
 replicate-each (suc n) a (suc j) = replicate-each n a j
 
--- what holds of all elements, with one more at the end, at a place and behind a place
+-- what holds of all elements, with one more at the end, or at a place
 pub all-push : {X : Type 0} (P : X → Type 0) (xs : List X) (x : X) → All P xs → P x → All P (xs ++ x ∷ [])
 all-push P [] x all here = (here, tt)
 all-push P (y ∷ ys) x all here = (all .0, all-push P ys x (all .1) here)
@@ -33,11 +33,6 @@ pub all-at : {X : Type 0} (P : X → Type 0) (xs : List X) (i : ℕ) (d : X) →
 all-at P [] i d all lt = absurd (omega arith)
 all-at P (x ∷ xs) zero d all lt = all .0
 all-at P (x ∷ xs) (suc i) d all lt = all-at P xs i d (all .1) (omega arith)
-
-pub all-drop : {X : Type 0} (P : X → Type 0) (n : ℕ) (xs : List X) → All P xs → All P (drop n xs)
-all-drop P zero xs all = all
-all-drop P (suc n) [] all = tt
-all-drop P (suc n) (x ∷ xs) all = all-drop P n xs (all .1)
 
 -- what holds of each row holds of each of the front ones
 pub all-front : {X : Type 0} (P : X → Type 0) (n : ℕ) (xs : List X) (d : X) → ((i : ℕ) → P (getD xs i d)) → All P (take n xs)

@@ -22,7 +22,7 @@ loop-step-again c =
     simp shift
       (omega arith,
        or-lt 64 (c .loop-step .all) _ (before .1) (or-lt 64 (x .needs) (2 ^ x .gives) (is .0) (pow-below (x .gives) 64 (is .1))),
-       sym (named-more (c .args .steps .now) (c .loop-step .step-index) (c .loop-step .all) (c .pre) (c .loop-step-test .taken) (before .1)) ∙ before .2)
+       sym (named-more (c .args .steps .now) (c .loop-step .step-index) (c .loop-step .all) (c .loop-step-test .taken)) ∙ before .2)
 
 pub returns : need.returns
 returns c =

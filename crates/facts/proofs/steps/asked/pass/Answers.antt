@@ -20,7 +20,7 @@ loop-step-again c =
     let is = all-at IsStep (c .args .steps .now) (c .loop-step .step-index) no-step (c .pre) (c .loop-step-test .taken) in
     let before = c .loop-step .inv .1 in
     (omega arith,
-     pass-more (c .args .steps .now) (c .loop-step .step-index) (c .args .set) (c .loop-step .set) (c .if-within .set) (omega arith) (c .loop-step-test .taken) before
+     pass-more (c .args .steps .now) (c .loop-step .step-index) (c .args .set) (c .loop-step .set) (c .if-within .set) (c .loop-step-test .taken) before
       (elim (c .if-within .came) [
         then-within w ↦
           subst (Passed (λ k. Obeys k x) (c .loop-step .set)) (sym (w .set-is))

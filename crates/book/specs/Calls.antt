@@ -1,0 +1,117 @@
+-- The calls that edit a book: on which grounds each is refused, and what an accepted one changes.
+use mathlib.Core.Path.{_≡_}
+use mathlib.Core.Logic.{_⊎_}
+use mathlib.Core.List.{List, [], _∷_}
+use Prim.Native.Nat.{ℕ, _+_, _≤_, _<_}
+use lib.Bits.{bitOr}
+use lib.Count.{ones}
+use lib.ListN.{length, set}
+use Rattle.std.specs.shelf.Lists.{All}
+use Rattle.std.specs.declared.option.Option.{Option}
+use Rattle.std.specs.declared.option.Option.the-variants.{Some, None}
+use Rattle.std.specs.declared.result.Result.{Result}
+use Rattle.sets.specs.Sets.{Has}
+use Rattle.sets.specs.Grounds.{Ground, Answered}
+use Rattle.sets.specs.declared.refusal.Refusal.{Refusal}
+use Rattle.sets.specs.declared.refusal.Refusal.the-variants.{OutOfRange, Filled, BadWords, NumbersSpent, Empty, Held, Named, TooManyUnless}
+use Rattle.book.specs.Rows.{at, Full, lines-named, rule-lines, unless-lines}
+use Rattle.book.specs.Kept.{last-number, most-unless}
+use Rattle.book.specs.Contents.{Contents, Held as OutHold}
+use Rattle.book.specs.declared.rows.Rule.{Rule}
+
+-- words are 1 to 24 bytes, each from 33 to 126
+pub record GoodWords (words : List ℕ) : Type 0 where
+  pub some : 1 ≤ length words
+  pub few : length words ≤ 24
+  pub printable : All (λ b. (33 ≤ b) × (b ≤ 126)) words
+
+-- a hold that is out has the line
+abbrev pub IsHeld : Contents → ℕ → Type 0
+IsHeld c line = (n : ℕ) × (h : OutHold) × (c .holds n ≡ Some h) × Has (h .lines) line
+
+abbrev pub write-grounds : Contents → ℕ → List ℕ → List Ground
+write-grounds c line words =
+    record { gives = OutOfRange; when = 63 < line }
+    ∷ record { gives = Filled; when = Full (c .lines) line }
+    ∷ record { gives = BadWords; when = GoodWords words → ⊥ }
+    ∷ record { gives = NumbersSpent; when = last-number < c .next }
+    ∷ []
+
+-- the line gets a statement with the next number, which is the answer
+abbrev pub Write : Contents → ℕ → List ℕ → Result ℕ Refusal → Contents → Type 0
+Write c line words answer after =
+    Answered (write-grounds c line words)
+      (λ number. (number ≡ c .next) × (after ≡ record {
+        lines = set (c .lines) line (Some (record { number = c .next; words = words }));
+        rules = c .rules;
+        holds = c .holds;
+        next = c .next + 1;
+        next-hold = c .next-hold;
+      }))
+      (after ≡ c)
+      answer
+
+-- `named` are the lines that the facts name
+abbrev pub strike-grounds : ℕ → Contents → ℕ → List Ground
+strike-grounds named c line =
+    record { gives = OutOfRange; when = 63 < line }
+    ∷ record { gives = Empty; when = at (c .lines) line ≡ None }
+    ∷ record { gives = Held; when = IsHeld c line }
+    ∷ record { gives = Named; when = Has (rule-lines (c .rules)) line ⊎ Has named line }
+    ∷ []
+
+-- the line is empty from now on
+abbrev pub Strike : ℕ → Contents → ℕ → Result (Unit {0}) Refusal → Contents → Type 0
+Strike named c line answer after =
+    Answered (strike-grounds named c line)
+      (λ _. after ≡ record {
+        lines = set (c .lines) line None;
+        rules = c .rules;
+        holds = c .holds;
+        next = c .next;
+        next-hold = c .next-hold;
+      })
+      (after ≡ c)
+      answer
+
+abbrev pub rule-grounds : Contents → ℕ → Rule → List Ground
+rule-grounds c place rule =
+    record { gives = OutOfRange; when = (39 < place) ⊎ (63 < rule .gives) }
+    ∷ record { gives = Filled; when = Full (c .rules) place }
+    ∷ record { gives = Empty; when = (n : ℕ) × Has (lines-named rule) n × (at (c .lines) n ≡ None) }
+    ∷ record { gives = TooManyUnless; when = most-unless < ones (bitOr (unless-lines (c .rules)) (rule .unless)) }
+    ∷ []
+
+-- the place has the rule from now on
+abbrev pub PutRule : Contents → ℕ → Rule → Result (Unit {0}) Refusal → Contents → Type 0
+PutRule c place rule answer after =
+    Answered (rule-grounds c place rule)
+      (λ _. after ≡ record {
+        lines = c .lines;
+        rules = set (c .rules) place (Some rule);
+        holds = c .holds;
+        next = c .next;
+        next-hold = c .next-hold;
+      })
+      (after ≡ c)
+      answer
+
+abbrev pub unrule-grounds : Contents → ℕ → List Ground
+unrule-grounds c place =
+    record { gives = OutOfRange; when = 39 < place }
+    ∷ record { gives = Empty; when = at (c .rules) place ≡ None }
+    ∷ []
+
+-- the place is empty from now on
+abbrev pub Unrule : Contents → ℕ → Result (Unit {0}) Refusal → Contents → Type 0
+Unrule c place answer after =
+    Answered (unrule-grounds c place)
+      (λ _. after ≡ record {
+        lines = c .lines;
+        rules = set (c .rules) place None;
+        holds = c .holds;
+        next = c .next;
+        next-hold = c .next-hold;
+      })
+      (after ≡ c)
+      answer

@@ -1,0 +1,5 @@
+pub mod Rows
+pub mod Kept
+pub mod Contents
+pub mod Calls
+pub mod View

@@ -1,0 +1,116 @@
+// What a book answers about itself.
+ghost use Prim.Native.Nat.{ℕ, _^_, _≤_, _<_};
+ghost use Rattle.book.specs.Kept.{FewUnless};
+ghost use Rattle.book.specs.Rows.{Full, FullOf, union, lines-named, unless-lines, at};
+ghost use Rattle.book.specs.View.{view, said};
+ghost use Rattle.sets.specs.Sets.{Has};
+ghost use Rattle.std.specs.Options.{mapped};
+ghost use Rattle.std.specs.Orderings.{Decides};
+ghost use Rattle.std.specs.declared.option.Option.the-variants.{Some};
+ghost use mathlib.Core.Path.{_≡_};
+use crate::book::Book;
+use crate::rows::HoldRow;
+use crate::rows::LineRow;
+use crate::rows::Rule;
+
+// A row that has lines.
+pub trait OfLines {
+    ghost lines: { Self → ℕ };
+
+    fn has(&self, line: u32) -> bool
+        ensures { λ r. ⌜ Decides r (Has (lines (now (self .entry))) line) ⌝ };
+}
+
+// A rule has the lines that it names: needs, unless and gives.
+pub impl OfLines for Rule as RuleLines {
+    ghost lines = { lines-named };
+
+    fn has(&self, line: u32) -> bool {
+        sets::has(self.needs | self.unless, line) | (self.gives == line)
+    }
+}
+
+pub impl OfLines for HoldRow as HoldLines {
+    ghost lines = { λ h. h .lines };
+
+    fn has(&self, line: u32) -> bool {
+        sets::has(self.lines, line)
+    }
+}
+
+// Is the place filled? None past the end is.
+pub fn filled<R: Copy>(rows: &[Option<R>], place: usize) -> bool
+    ensures { λ r. ⌜ Decides r (Full (now (rows .entry)) place) ⌝ }
+{
+    if place >= rows.len() {
+        return false;
+    }
+    let row = rows[place];
+    row.is_some()
+}
+
+// Does some row have the line?
+pub fn any_has<R: OfLines + Copy>(rows: &[Option<R>], line: u32) -> bool
+    ensures { λ r. ⌜ Decides r (Has (union lines (now (rows .entry))) line) ⌝ }
+{
+    for row in rows {
+        if let Some(one) = row {
+            if one.has(line) {
+                return true;
+            }
+        }
+    }
+    false
+}
+
+// The lines of all unless-sets together.
+fn all_unless(rules: &[Option<Rule>]) -> u64
+    ensures { λ r. ⌜ r ≡ unless-lines (now (rules .entry)) ⌝ }
+{
+    let mut all = 0;
+    for row in rules {
+        if let Some(rule) = row {
+            all |= rule.unless;
+        }
+    }
+    all
+}
+
+// The lines that have a statement.
+fn all_written(rows: &[Option<LineRow>; 64]) -> u64
+    ensures { λ r. ⌜ FullOf (now (rows .entry)) r ⌝ }
+{
+    let mut written = 0;
+    for line in 0u32..64 {
+        if let Some(_) = rows[line as usize] {
+            written = sets::with(written, line);
+        }
+    }
+    written
+}
+
+impl Book {
+    // The lines that have a statement.
+    pub fn written(&self) -> u64
+        ensures { λ r. ⌜ FullOf (view (now (self .entry)) .lines) r ⌝ }
+    {
+        all_written(&self.tables.lines)
+    }
+
+    // The lines that stand in some unless-set.
+    pub fn unless_lines(&self) -> u64
+        ensures { λ r. ⌜ r ≡ unless-lines (view (now (self .entry)) .rules) ⌝ }
+    {
+        all_unless(&self.tables.rules)
+    }
+
+    // The statement of a line, if it has one.
+    pub fn statement(&self, line: u32) -> Option<LineRow>
+        ensures { λ r. ⌜ mapped said r ≡ at (view (now (self .entry)) .lines) line ⌝ }
+    {
+        if line > 63 {
+            return None;
+        }
+        self.tables.lines[line as usize]
+    }
+}
