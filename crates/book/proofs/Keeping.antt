@@ -26,22 +26,9 @@ use Rattle.book.specs.declared.rows.LineRow.{LineRow}
 use Rattle.book.specs.declared.rows.Rule.{Rule}
 use Rattle.book.specs.declared.rows.HoldRow.{HoldRow}
 use Rattle.book.specs.declared.rows.Tables.{Tables}
-use Rattle.book.proofs.Tables.{at-set, empty-at, at-map, full-map, union-at, union-has, union-set, union-unset}
+use Rattle.book.proofs.Tables.{some-same, no-some, not-full, empty-from, at-set, empty-at, at-map, full-map, union-at, union-has, union-set, union-unset}
 
 module _ {X : Type 0} where
-  pub no-some : {x : X} → None ≡ Some x → ⊥
-  no-some {x} e = let z : _≡_ {A = ℕ} 0 1 = cc in omega arith
-
-  pub not-full : (rows : List (Option X)) (n : ℕ) → at rows n ≡ None → Full rows n → ⊥
-  not-full rows n e full = let f : isSome {T = X} None ≡ true = sym (ap isSome e) ∙ full in grind arith
-
-  pub empty-from : (rows : List (Option X)) (n : ℕ) → (Full rows n → ⊥) → at rows n ≡ None
-  empty-from rows n out = by (at rows n) refl
-    where
-      by : (o : Option X) → at rows n ≡ o → at rows n ≡ None
-      by None e = e
-      by (Some x) e = absurd (out (ap isSome e))
-
   -- the same of a place as it is seen through a function of its row
   module _ {Y : Type 0} (f : X → Y) (rows : List (Option X)) (n : ℕ) where
     pub not-full-seen : (Full rows n → ⊥) → Full (map (mapped f) rows) n → ⊥
@@ -61,9 +48,6 @@ module _ {X : Type 0} where
   pub each-written : (P : X → Type 0) (rows : List (Option X)) (k : ℕ) (x : X) → ((i : ℕ) (a : X) → at rows i ≡ Some a → P a) → P x → (i : ℕ) (a : X) → at (set rows k (Some x)) i ≡ Some a → P a
   each-written P rows k x each here i a e =
       ⊎-elim (λ new. let same : x ≡ a = some-same (sym (new .0) ∙ e) in subst P same here) (λ old. each i a (sym old ∙ e)) (at-set rows k i (Some x))
-    where
-      some-same : {u v : X} → Some u ≡ Some v → u ≡ v
-      some-same s = cc
 
   pub each-cleared : (P : X → Type 0) (rows : List (Option X)) (k : ℕ) → ((i : ℕ) (a : X) → at rows i ≡ Some a → P a) → (i : ℕ) (a : X) → at (set rows k None) i ≡ Some a → P a
   each-cleared P rows k each i a e = ⊎-elim (λ new. absurd (no-some (sym (new .0) ∙ e))) (λ old. each i a (sym old ∙ e)) (at-set rows k i None)
@@ -90,11 +74,8 @@ module _ {X : Type 0} where
     fresh rows next i given e = by (at rows i) refl e
       where
         by : (o : Option X) → at rows i ≡ o → mapped number o ≡ Some next → ⊥
-        by None at-i f = no-number f
-          where
-            no-number : None ≡ Some next → ⊥
-            no-number f = let z : _≡_ {A = ℕ} 0 1 = cc in omega arith
-        by (Some y) at-i f = let same : number y ≡ next = cc in omega (arith, given i y at-i .1)
+        by None at-i f = no-some f
+        by (Some y) at-i f = let same : number y ≡ next = some-same f in omega (arith, given i y at-i .1)
 
     pub distinct-written : (rows : List (Option X)) (k next : ℕ) (x : X) → Distinct number rows → Given number rows next → number x ≡ next → Distinct number (set rows k (Some x))
     distinct-written rows k next x distinct given new i j h = by (at-set rows k i (Some x)) (at-set rows k j (Some x))
@@ -113,11 +94,8 @@ module _ {X : Type 0} where
         gone : at (set rows k None) i ≡ None → ⊥
         gone e = not-full (set rows k None) i e (h .0)
         none-number : (o : Option X) → isSome o ≡ true → mapped number o ≡ None → ⊥
-        none-number None f e = not-full [] 0 refl f
+        none-number None f e = not-full {X = X} [] 0 refl f
         none-number (Some y) f e = no-some (sym e)
-          where
-            no-some : None ≡ Some (number y) → ⊥
-            no-some e = let z : _≡_ {A = ℕ} 0 1 = cc in omega arith
         by : ((at (set rows k None) i ≡ None) × (i ≡ k)) ⊎ (at (set rows k None) i ≡ at rows i) → ((at (set rows k None) j ≡ None) × (j ≡ k)) ⊎ (at (set rows k None) j ≡ at rows j) → i ≡ j
         by (inl a) b = absurd (gone (a .0))
         by (inr a) (inl b) = absurd (none-number (at (set rows k None) i) (h .0) (h .1 ∙ ap (mapped number) (b .0)))
@@ -153,12 +131,8 @@ seen-hold (Some r ∷ rows) number line h e has = by (eqb (r .number) number) (s
   where
     by : (b : Bool) → (out-at rows number ≡ Some h → Has (h .lines) line → Has (union hold-lines rows) line) → cond b (Some (record { lines = r .lines })) (out-at rows number) ≡ Some h → Has (bitOr (r .lines) (union hold-lines rows)) line
     by true rest f =
-        let same : r .lines ≡ h .lines = ap lines-in f in
+        let same : r .lines ≡ h .lines = ap (λ k. k .lines) (some-same f) in
         or-has-left (r .lines) (union hold-lines rows) line (subst (λ s. Has s line) (sym same) has)
-      where
-        lines-in : Option Held → ℕ
-        lines-in None = 0
-        lines-in (Some k) = k .lines
     by false rest f = or-has-right (r .lines) (union hold-lines rows) line (rest f has)
 
 -- a hold in the table is seen by its number
@@ -167,7 +141,7 @@ hold-seen [] i h distinct e = absurd (no-some e)
 hold-seen (None ∷ rows) zero h distinct e = absurd (no-some e)
 hold-seen (None ∷ rows) (suc i) h distinct e = hold-seen rows i h (λ a b k. let s = distinct (suc a) (suc b) k in omega arith) e
 hold-seen (Some r ∷ rows) zero h distinct e =
-    let same : r ≡ h = cc in
+    let same : r ≡ h = some-same e in
     let yes-number : eqb (r .number) (h .number) ≡ true = decides-eqb (r .number) (h .number) .1 (ap (λ x. x .number) same) in
     ap (λ b. cond b (Some (record { lines = r .lines })) (out-at rows (h .number))) yes-number ∙ ap (λ x. Some (record { lines = x .lines })) same
 hold-seen (Some r ∷ rows) (suc i) h distinct e = by (hold-seen rows i h (λ a b k. let s = distinct (suc a) (suc b) k in omega arith) e) (eqb (r .number) (h .number)) refl

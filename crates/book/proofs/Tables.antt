@@ -26,11 +26,24 @@ use Rattle.book.specs.declared.rows.HoldRow.{HoldRow}
 -- ---- places
 
 module _ {X : Type 0} where
+  pub some-same : {x y : X} → Some x ≡ Some y → x ≡ y
+  some-same e = cc
+
+  pub no-some : {x : X} → None ≡ Some x → ⊥
+  no-some {x} e = let z : _≡_ {A = ℕ} 0 1 = cc in omega arith
+
+  pub not-full : (rows : List (Option X)) (n : ℕ) → at rows n ≡ None → Full rows n → ⊥
+  not-full rows n e full = let f : isSome {T = X} None ≡ true = sym (ap isSome e) ∙ full in grind arith
+
   pub full-below : (rows : List (Option X)) (i : ℕ) → Full rows i → i < length rows
-  full-below rows i full = elim (decLt i (length rows)) [ yes l ↦ l | no l ↦ absurd (none (sym (ap isSome (getD-past rows i None (omega arith))) ∙ full)) ]
+  full-below rows i full = elim (decLt i (length rows)) [ yes l ↦ l | no l ↦ absurd (not-full rows i (getD-past rows i None (omega arith)) full) ]
+
+  pub empty-from : (rows : List (Option X)) (n : ℕ) → (Full rows n → ⊥) → at rows n ≡ None
+  empty-from rows n out = by (at rows n) refl
     where
-      none : isSome {T = X} None ≡ true → ⊥
-      none e = grind arith
+      by : (o : Option X) → at rows n ≡ o → at rows n ≡ None
+      by None e = e
+      by (Some x) e = absurd (out (ap isSome e))
 
   -- what stands at a place after a write to one: what was written, or what stood there
   pub at-set : (rows : List (Option X)) (i j : ℕ) (v : Option X) → (at (set rows i v) j ≡ v × (j ≡ i)) ⊎ (at (set rows i v) j ≡ at rows j)
@@ -76,19 +89,16 @@ module _ {X : Type 0} (rows : List (Option X)) (k s : ℕ) (below : FullBelow ro
   pub full-same : at rows k ≡ None → FullBelow rows (k + 1) s
   full-same none n =
       (λ h. let o = below n .0 h in (omega arith, o .1),
-       λ h. elim (ℕ-discrete n k) [ yes e ↦ absurd (not-full (ap (at rows) e ∙ none) (h .1)) | no other ↦ below n .1 (omega (arith, h .0), h .1) ])
-    where
-      not-full : at rows n ≡ None → Full rows n → ⊥
-      not-full e full = let f : isSome {T = X} None ≡ true = sym (ap isSome e) ∙ full in grind arith
+       λ h. elim (ℕ-discrete n k) [ yes e ↦ absurd (not-full rows n (ap (at rows) e ∙ none) (h .1)) | no other ↦ below n .1 (omega (arith, h .0), h .1) ])
 
 -- ---- the lines of all rows together
 
 module _ {X : Type 0} (lines : X → ℕ) where
   pub union-at : (rows : List (Option X)) (i n : ℕ) (x : X) → at rows i ≡ Some x → Has (lines x) n → Has (union lines rows) n
-  union-at [] i n x e h = absurd (let z : _≡_ {A = ℕ} 0 1 = cc in omega arith)
-  union-at (None ∷ rows) zero n x e h = absurd (let z : _≡_ {A = ℕ} 0 1 = cc in omega arith)
+  union-at [] i n x e h = absurd (no-some e)
+  union-at (None ∷ rows) zero n x e h = absurd (no-some e)
   union-at (None ∷ rows) (suc i) n x e h = union-at rows i n x e h
-  union-at (Some y ∷ rows) zero n x e h = let same : y ≡ x = cc in or-has-left (lines y) (union lines rows) n (subst (λ z. Has (lines z) n) (sym same) h)
+  union-at (Some y ∷ rows) zero n x e h = or-has-left (lines y) (union lines rows) n (subst (λ z. Has (lines z) n) (sym (some-same e)) h)
   union-at (Some y ∷ rows) (suc i) n x e h = or-has-right (lines y) (union lines rows) n (union-at rows i n x e h)
 
   pub union-has : (rows : List (Option X)) (n : ℕ) → Has (union lines rows) n → (i : ℕ) × (x : X) × (at rows i ≡ Some x) × Has (lines x) n
@@ -117,11 +127,8 @@ module _ {X : Type 0} (lines : X → ℕ) where
         (λ new. or-has-right (union lines rows) (lines x) n (let same : r .1 ≡ x = some-same (sym (r .2) ∙ new .0) in subst (λ z. Has (lines z) n) same (r .3)))
         (λ old. or-has-left (union lines rows) (lines x) n (union-at rows (r .0) n (r .1) (sym old ∙ r .2) (r .3)))
         (at-set rows i (r .0) (Some x))
-    where
-      some-same : {a b : X} → Some a ≡ Some b → a ≡ b
-      some-same e = cc
 
   pub union-unset : (rows : List (Option X)) (i : ℕ) → Within (union lines (set rows i None)) (union lines rows)
   union-unset rows i n h =
       let r = union-has (set rows i None) n h in
-      ⊎-elim (λ new. absurd (let e = sym (r .2) ∙ new .0 in let z : _≡_ {A = ℕ} 0 1 = cc in omega arith)) (λ old. union-at rows (r .0) n (r .1) (sym old ∙ r .2) (r .3)) (at-set rows i (r .0) None)
+      ⊎-elim (λ new. absurd (no-some (sym (new .0) ∙ r .2))) (λ old. union-at rows (r .0) n (r .1) (sym old ∙ r .2) (r .3)) (at-set rows i (r .0) None)

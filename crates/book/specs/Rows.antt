@@ -2,7 +2,7 @@
 use mathlib.Core.Path.{_≡_}
 use mathlib.Core.Bool.{true}
 use mathlib.Core.List.{List, [], _∷_}
-use Prim.Native.Nat.{ℕ, _^_}
+use Prim.Native.Nat.{ℕ, _^_, _<_}
 use lib.Bits.{bitOr}
 use lib.ListN.{getD}
 use Rattle.std.specs.Options.{isSome}
@@ -40,3 +40,7 @@ unless-lines rules = union (λ r. r .unless) rules
 -- s is the set of the places that are filled
 abbrev pub FullOf : {X : Type 0} → List (Option X) → ℕ → Type 0
 FullOf rows s = (n : ℕ) → (Has s n → Full rows n) × (Full rows n → Has s n)
+
+-- every rule gives a line, 0 to 63
+abbrev pub GivesLines : List (Option Rule) → Type 0
+GivesLines rules = (p : ℕ) (r : Rule) → at rules p ≡ Some r → r .gives < 64

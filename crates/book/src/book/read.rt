@@ -1,7 +1,7 @@
 // What a book answers about itself.
 ghost use Prim.Native.Nat.{ℕ, _^_, _≤_, _<_};
 ghost use Rattle.book.specs.Kept.{FewUnless};
-ghost use Rattle.book.specs.Rows.{Full, FullOf, union, lines-named, unless-lines, at};
+ghost use Rattle.book.specs.Rows.{Full, FullOf, GivesLines, union, lines-named, unless-lines, at};
 ghost use Rattle.book.specs.View.{view, said};
 ghost use Rattle.sets.specs.Sets.{Has};
 ghost use Rattle.std.specs.Options.{mapped};
@@ -102,6 +102,14 @@ impl Book {
         ensures { λ r. ⌜ r ≡ unless-lines (view (now (self .entry)) .rules) ⌝ }
     {
         all_unless(&self.tables.rules)
+    }
+
+    // The rule of each place, if it has one. Each gives a line.
+    pub fn rules(&self) -> &[Option<Rule>]
+        ensures same { λ r. ⌜ now r ≡ view (now (self .entry)) .rules ⌝ }
+        ensures lines { λ r. ⌜ GivesLines (now r) ⌝ }
+    {
+        &self.tables.rules
     }
 
     // The statement of a line, if it has one.

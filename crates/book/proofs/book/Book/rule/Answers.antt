@@ -10,8 +10,8 @@ use Rattle.sets.specs.Sets.{Has}
 use Rattle.sets.proofs.Lines.{outside-from-not-within}
 use Rattle.book.specs.Rows.{lines-named}
 use Rattle.book.specs.View.{said}
-use Rattle.book.proofs.Keeping.{empty-from, on-lines-written, few-written, named-shift}
-use Rattle.book.proofs.Tables.{full-map}
+use Rattle.book.proofs.Keeping.{on-lines-written, few-written, named-shift}
+use Rattle.book.proofs.Tables.{empty-from, full-map}
 use Rattle.book.proofs.book.Book.rule.Needs as need
 
 pub returns-then-not-within : need.returns-then-not-within

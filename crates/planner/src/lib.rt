@@ -1,0 +1,7 @@
+// The planner: owns its facts and its book, and lists the menus page by page.
+pub mod listing;
+pub mod planner;
+mod tries;
+
+pub use crate::listing::Listing;
+pub use crate::planner::Planner;

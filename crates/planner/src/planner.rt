@@ -1,0 +1,111 @@
+// The planner, and its calls.
+ghost use Prim.Native.Nat.{_≤_};
+ghost use Rattle.book.specs.Rows.{GivesLines};
+ghost use Rattle.planner.specs.Tries.{Found, Page, guesses};
+ghost use Rattle.planner.specs.View.{view};
+ghost use Rattle.planner.specs.World.{Step, fresh, wrote, struck, ruled, unruled, listed};
+ghost use mathlib.Core.Path.{_≡_};
+use book::book::Book;
+use book::rows::Rule;
+use crate::listing::Listing;
+use crate::tries::find;
+use facts::Facts;
+use sets::refusal::Refusal;
+
+#[derive(Drop)]
+pub struct Planner<F> {
+    number: u32,
+    facts: F,
+    book: Book,
+}
+
+impl<F: Facts> Planner<F> {
+    // A new planner over these facts, which it owns from now on.
+    pub fn new(number: u32, facts: F) -> Planner<F>
+        ensures made { λ r. ⌜ view r ≡ fresh number ⌝ }
+        ensures facts { λ r. ⌜ r .facts ≡ facts ⌝ }
+    {
+        Planner {
+            number,
+            facts,
+            book: Book::new(),
+        }
+    }
+
+    // Fills an empty line with words, and answers the statement's number.
+    pub fn write(&mut self, line: u32, words: &[u8]) -> Result<u32, Refusal>
+        ensures step { λ r. ⌜ Step (F·Facts .meaning (now (self .entry) .facts)) (view (now (self .entry))) (wrote line (now (words .entry)) r) (view (now (self .exit))) ⌝ }
+        ensures facts { λ _. ⌜ now (self .exit) .facts ≡ now (self .entry) .facts ⌝ }
+    {
+        self.book.write(line, words)
+    }
+
+    // Empties a line.
+    pub fn strike(&mut self, line: u32) -> Result<(), Refusal>
+        ensures step { λ r. ⌜ Step (F·Facts .meaning (now (self .entry) .facts)) (view (now (self .entry))) (struck line r) (view (now (self .exit))) ⌝ }
+        ensures facts { λ _. ⌜ now (self .exit) .facts ≡ now (self .entry) .facts ⌝ }
+    {
+        self.book.strike(line, &self.facts)
+    }
+
+    // Fills an empty place with a rule.
+    pub fn rule(&mut self, place: u32, needs: u64, unless: u64, gives: u32) -> Result<(), Refusal>
+        ensures step { λ r. ⌜ Step (F·Facts .meaning (now (self .entry) .facts)) (view (now (self .entry))) (ruled place (record { needs = needs; unless = unless; gives = gives }) r) (view (now (self .exit))) ⌝ }
+        ensures facts { λ _. ⌜ now (self .exit) .facts ≡ now (self .entry) .facts ⌝ }
+    {
+        self.book.rule(place, Rule { needs, unless, gives })
+    }
+
+    // Empties a place.
+    pub fn unrule(&mut self, place: u32) -> Result<(), Refusal>
+        ensures step { λ r. ⌜ Step (F·Facts .meaning (now (self .entry) .facts)) (view (now (self .entry))) (unruled place r) (view (now (self .exit))) ⌝ }
+        ensures facts { λ _. ⌜ now (self .exit) .facts ≡ now (self .entry) .facts ⌝ }
+    {
+        self.book.unrule(place)
+    }
+
+    // How many guesses there are, one for each part of the lines in unless-sets.
+    pub fn guesses(&self) -> u32
+        ensures { λ r. ⌜ r ≡ guesses (view (now (self .entry)) .book .rules) ⌝ }
+    {
+        1 << self.book.unless_lines().count_ones()
+    }
+
+    // Writes what the guesses find, from a guess on, to the page: it stops when the page is full or no guess is left.
+    pub fn list(&self, from: u32, page: &mut [u64]) -> Result<Listing, Refusal>
+        ensures { λ r. ⌜ Step (F·Facts .meaning (now (self .entry) .facts)) (view (now (self .entry))) (listed from (now (page .entry)) (now (page .exit)) r) (view (now (self .entry))) ⌝ }
+    {
+        if !sets::within(self.facts.names(), self.book.written()) {
+            return Err(Refusal::FactsNameEmpty);
+        }
+        let total = self.guesses();
+        if from > total {
+            return Err(Refusal::FromTooHigh);
+        }
+        Ok(read(&self.facts, self.book.rules(), self.book.unless_lines(), from, total, page))
+    }
+
+    // The book, to read.
+    pub fn book(&self) -> &Book
+        ensures { λ r. ⌜ now r ≡ now (self .entry) .book ⌝ }
+    {
+        &self.book
+    }
+}
+
+// Tries the guesses from `from` on, and writes each set found to the next place.
+fn read<F: Facts>(facts: &F, rules: &[Option<Rule>], unless: u64, from: u32, total: u32, page: &mut [u64]) -> Listing
+    requires { ⌜ GivesLines (now rules) ⌝ ∗ ⌜ from ≤ total ⌝ }
+    ensures { λ r. ⌜ Page (Found (F·Facts .meaning (now (facts .entry))) (now (rules .entry)) unless) from total (now (page .entry)) (now (page .exit)) (r .count) (r .next) ⌝ }
+{
+    let mut count = 0;
+    let mut next = from;
+    while count < page.len() && next < total {
+        if let Some(found) = find(facts, rules, unless, next) {
+            page[count] = found;
+            count += 1;
+        }
+        next += 1;
+    }
+    Listing { count, next }
+}

@@ -1,0 +1,61 @@
+// A try: the smallest set closed under the facts and the rules that a guess leaves open.
+ghost use Prim.Native.Nat.{ℕ};
+ghost use Rattle.book.specs.Rows.{GivesLines};
+ghost use Rattle.facts.specs.Closure.{Passed};
+ghost use Rattle.planner.specs.Tries.{Open, Obeys, Closed, Found};
+ghost use Rattle.sets.specs.Sets.{Within, Smallest};
+ghost use Rattle.std.specs.Options.{Cases};
+ghost use Rattle.std.specs.Orderings.{Decides};
+use book::rows::Rule;
+use facts::Facts;
+
+// Does the rule fire: is it open under the guess, and are its needs in the set?
+fn fires(rule: &Rule, guess: u64, set: u64) -> bool
+    ensures { λ r. ⌜ Decides r (Open (now (rule .entry)) guess × Within (now (rule .entry) .needs) set) ⌝ }
+{
+    (rule.unless & guess == 0) & sets::within(rule.needs, set)
+}
+
+// One round over the rules: each that fires adds its line.
+fn round(rules: &[Option<Rule>], guess: u64, mut set: u64) -> u64
+    requires { ⌜ GivesLines (now rules) ⌝ }
+    ensures { λ r. ⌜ Passed (Obeys (now (rules .entry)) guess) set r ⌝ }
+{
+    for row in rules {
+        if let Some(rule) = row {
+            if fires(rule, guess, set) {
+                set = sets::with(set, rule.gives);
+            }
+        }
+    }
+    set
+}
+
+// Rounds over the rules, each followed by the facts, until one adds nothing.
+fn close<F: Facts>(facts: &F, rules: &[Option<Rule>], guess: u64) -> u64
+    requires { ⌜ GivesLines (now rules) ⌝ }
+    ensures { λ r. ⌜ Smallest (Closed (F·Facts .meaning (now (facts .entry))) (now (rules .entry)) guess) r ⌝ }
+{
+    let mut set = facts.follow(0);
+    loop {
+        let next = facts.follow(round(rules, guess, set));
+        if next == set {
+            return set;
+        }
+        set = next;
+    }
+}
+
+// What a guess finds, if anything.
+pub fn find<F: Facts>(facts: &F, rules: &[Option<Rule>], unless: u64, number: u32) -> Option<u64>
+    requires { ⌜ GivesLines (now rules) ⌝ }
+    ensures { λ r. ⌜ Cases r ((s : ℕ) → Found (F·Facts .meaning (now (facts .entry))) (now (rules .entry)) unless number s → ⊥) (Found (F·Facts .meaning (now (facts .entry))) (now (rules .entry)) unless number) ⌝ }
+{
+    let guess = sets::pick::pick(unless, u64::from(number));
+    let set = close(facts, rules, guess);
+    if set & unless == guess {
+        Some(set)
+    } else {
+        None
+    }
+}
