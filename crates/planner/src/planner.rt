@@ -2,7 +2,7 @@
 ghost use Prim.Native.Nat.{_≤_};
 ghost use Rattle.book.specs.Rows.{GivesLines};
 ghost use Rattle.planner.specs.Tries.{Found, Page, guesses};
-ghost use Rattle.planner.specs.View.{view};
+ghost use Rattle.planner.specs.View.{view, facts-of, book-of};
 ghost use Rattle.planner.specs.World.{Step, fresh, wrote, struck, ruled, unruled, listed};
 ghost use mathlib.Core.Path.{_≡_};
 use book::book::Book;
@@ -23,7 +23,7 @@ impl<F: Facts> Planner<F> {
     // A new planner over these facts, which it owns from now on.
     pub fn new(number: u32, facts: F) -> Planner<F>
         ensures made { λ r. ⌜ view r ≡ fresh number ⌝ }
-        ensures facts { λ r. ⌜ r .facts ≡ facts ⌝ }
+        ensures facts { λ r. ⌜ facts-of r ≡ facts ⌝ }
     {
         Planner {
             number,
@@ -34,32 +34,32 @@ impl<F: Facts> Planner<F> {
 
     // Fills an empty line with words, and answers the statement's number.
     pub fn write(&mut self, line: u32, words: &[u8]) -> Result<u32, Refusal>
-        ensures step { λ r. ⌜ Step (F·Facts .meaning (now (self .entry) .facts)) (view (now (self .entry))) (wrote line (now (words .entry)) r) (view (now (self .exit))) ⌝ }
-        ensures facts { λ _. ⌜ now (self .exit) .facts ≡ now (self .entry) .facts ⌝ }
+        ensures step { λ r. ⌜ Step (F·Facts .meaning (facts-of (now (self .entry)))) (view (now (self .entry))) (wrote line (now (words .entry)) r) (view (now (self .exit))) ⌝ }
+        ensures facts { λ _. ⌜ facts-of (now (self .exit)) ≡ facts-of (now (self .entry)) ⌝ }
     {
         self.book.write(line, words)
     }
 
     // Empties a line.
     pub fn strike(&mut self, line: u32) -> Result<(), Refusal>
-        ensures step { λ r. ⌜ Step (F·Facts .meaning (now (self .entry) .facts)) (view (now (self .entry))) (struck line r) (view (now (self .exit))) ⌝ }
-        ensures facts { λ _. ⌜ now (self .exit) .facts ≡ now (self .entry) .facts ⌝ }
+        ensures step { λ r. ⌜ Step (F·Facts .meaning (facts-of (now (self .entry)))) (view (now (self .entry))) (struck line r) (view (now (self .exit))) ⌝ }
+        ensures facts { λ _. ⌜ facts-of (now (self .exit)) ≡ facts-of (now (self .entry)) ⌝ }
     {
         self.book.strike(line, &self.facts)
     }
 
     // Fills an empty place with a rule.
     pub fn rule(&mut self, place: u32, needs: u64, unless: u64, gives: u32) -> Result<(), Refusal>
-        ensures step { λ r. ⌜ Step (F·Facts .meaning (now (self .entry) .facts)) (view (now (self .entry))) (ruled place (record { needs = needs; unless = unless; gives = gives }) r) (view (now (self .exit))) ⌝ }
-        ensures facts { λ _. ⌜ now (self .exit) .facts ≡ now (self .entry) .facts ⌝ }
+        ensures step { λ r. ⌜ Step (F·Facts .meaning (facts-of (now (self .entry)))) (view (now (self .entry))) (ruled place (record { needs = needs; unless = unless; gives = gives }) r) (view (now (self .exit))) ⌝ }
+        ensures facts { λ _. ⌜ facts-of (now (self .exit)) ≡ facts-of (now (self .entry)) ⌝ }
     {
         self.book.rule(place, Rule { needs, unless, gives })
     }
 
     // Empties a place.
     pub fn unrule(&mut self, place: u32) -> Result<(), Refusal>
-        ensures step { λ r. ⌜ Step (F·Facts .meaning (now (self .entry) .facts)) (view (now (self .entry))) (unruled place r) (view (now (self .exit))) ⌝ }
-        ensures facts { λ _. ⌜ now (self .exit) .facts ≡ now (self .entry) .facts ⌝ }
+        ensures step { λ r. ⌜ Step (F·Facts .meaning (facts-of (now (self .entry)))) (view (now (self .entry))) (unruled place r) (view (now (self .exit))) ⌝ }
+        ensures facts { λ _. ⌜ facts-of (now (self .exit)) ≡ facts-of (now (self .entry)) ⌝ }
     {
         self.book.unrule(place)
     }
@@ -73,7 +73,7 @@ impl<F: Facts> Planner<F> {
 
     // Writes what the guesses find, from a guess on, to the page: it stops when the page is full or no guess is left.
     pub fn list(&self, from: u32, page: &mut [u64]) -> Result<Listing, Refusal>
-        ensures { λ r. ⌜ Step (F·Facts .meaning (now (self .entry) .facts)) (view (now (self .entry))) (listed from (now (page .entry)) (now (page .exit)) r) (view (now (self .entry))) ⌝ }
+        ensures { λ r. ⌜ Step (F·Facts .meaning (facts-of (now (self .entry)))) (view (now (self .entry))) (listed from (now (page .entry)) (now (page .exit)) r) (view (now (self .entry))) ⌝ }
     {
         if !sets::within(self.facts.names(), self.book.written()) {
             return Err(Refusal::FactsNameEmpty);
@@ -87,7 +87,7 @@ impl<F: Facts> Planner<F> {
 
     // The book, to read.
     pub fn book(&self) -> &Book
-        ensures { λ r. ⌜ now r ≡ now (self .entry) .book ⌝ }
+        ensures { λ r. ⌜ now r ≡ book-of (now (self .entry)) ⌝ }
     {
         &self.book
     }

@@ -114,7 +114,8 @@ impl Book {
 
     // The statement of a line, if it has one.
     pub fn statement(&self, line: u32) -> Option<LineRow>
-        ensures { λ r. ⌜ mapped said r ≡ at (view (now (self .entry)) .lines) line ⌝ }
+        ensures said { λ r. ⌜ mapped said r ≡ at (view (now (self .entry)) .lines) line ⌝ }
+        ensures worded { λ r. ⌜ ((row : LineRow) → r ≡ Some row → row .len ≤ 24) ⌝ }
     {
         if line > 63 {
             return None;

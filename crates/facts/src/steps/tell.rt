@@ -1,7 +1,6 @@
 // Making facts of steps, and adding a step.
-ghost use Rattle.facts.specs.Told.{told, step-grounds};
-ghost use Rattle.sets.specs.Grounds.{Answered};
-ghost use mathlib.Core.List.{[], _∷_, _++_};
+ghost use Rattle.facts.specs.Told.{told, PutStep};
+ghost use mathlib.Core.List.{[]};
 ghost use mathlib.Core.Path.{_≡_};
 use crate::step::Step;
 use crate::steps::MOST_STEPS;
@@ -23,7 +22,8 @@ impl<F> Steps<F> {
 
     // Adds a step, as the last.
     pub fn step(&mut self, needs: u64, gives: u32) -> Result<(), Refusal>
-        ensures { λ r. ⌜ Answered (step-grounds (told (now (self .entry))) gives) (λ _. (told (now (self .exit)) ≡ told (now (self .entry)) ++ record { needs = needs; gives = gives } ∷ []) × (now (self .exit) .below ≡ now (self .entry) .below)) (now (self .exit) ≡ now (self .entry)) r ⌝ }
+        ensures step { λ r. ⌜ PutStep (told (now (self .entry))) needs gives r (told (now (self .exit))) ⌝ }
+        ensures below { λ _. ⌜ now (self .exit) .below ≡ now (self .entry) .below ⌝ }
     {
         if gives > 63 {
             return Err(Refusal::OutOfRange);

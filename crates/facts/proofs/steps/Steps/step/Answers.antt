@@ -9,7 +9,7 @@ use Rattle.facts.specs.Steps.{no-step}
 use Rattle.facts.proofs.steps.Steps.step.Needs as need
 
 pub returns-then-at-ge-MOST-STEPS : need.returns-then-at-ge-MOST-STEPS
-returns-then-at-ge-MOST-STEPS g c = (inr (omega arith, inl (simp length-take (omega arith), refl)), refl)
+returns-then-at-ge-MOST-STEPS g c = record { step = (inr (omega arith, inl (simp length-take (omega arith), refl)), refl); below = refl }
 
 pub ghost-self : need.ghost-self
 ghost-self g c =
@@ -21,6 +21,7 @@ ghost-self g c =
        (each-set (λ x. x .gives < 64) rows at _ no-step (c .args .self .now .«gives_fit») (omega arith), tt))))
 
 pub returns : need.returns
-returns g c =
-    ((omega arith, (λ full. omega (arith, simp length-take at full), tt)),
-     (take-more-set (c .args .self .now .rows) (c .args .self .now .count) _ (omega arith), refl))
+returns g c = record {
+  step = ((omega arith, (λ full. omega (arith, simp length-take at full), tt)), take-more-set (c .args .self .now .rows) (c .args .self .now .count) _ (omega arith));
+  below = refl;
+}
