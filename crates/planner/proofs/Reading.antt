@@ -1,11 +1,14 @@
 -- One guess more was read.
-use mathlib.Core.Path.{_≡_, refl, sym, ap, subst, _∙_}
+use mathlib.Core.Path.{_≡_, refl, sym, ap, subst, subst₂, _∙_}
 use mathlib.Core.List.{List, [], _∷_, _++_}
 use Prim.Native.Nat.{ℕ, _+_, _-_, _≤_, _<_}
 use native.Mathlib.Decide.{ℕ-discrete}
 use native.Mathlib.Omega.{arith}
 use lib.ListN.{length, getD, set, take, drop}
 use Rattle.std.proofs.shelf.Lists.{take-more-set, length-set, getD-set-same, drop-drop, drop-set-lt}
+use Rattle.std.specs.Options.{Cases}
+use Rattle.std.specs.declared.option.Option.{Option}
+use Rattle.std.specs.declared.option.Option.the-variants.{Some, None}
 use Rattle.planner.specs.Tries.{Reads, Page}
 
 -- A list on its way: it filled `count` places and is about to try the guess `next`.
@@ -66,6 +69,11 @@ module _ (F : ℕ → ℕ → Type 0) where
         no-place = λ z. absurd (omega (arith, at .same-length));
         full = λ _ e. absurd (omega (arith, at .same-length));
       }
+
+      -- what a try found, or that it found nothing, was put to the page
+      pub reading-put : (found : Option ℕ) → Cases found ((s : ℕ) → F next s → ⊥) (F next) → (page : List ℕ) (filled : ℕ) → Cases found ((page ≡ after) × (filled ≡ count)) (λ s. (page ≡ set after count s) × (filled ≡ count + 1)) → Reading F from before page filled (next + 1)
+      reading-put None none page filled put = subst₂ (λ p c. Reading F from before p c (next + 1)) (sym (put .0)) (sym (put .1)) (reading-missed none)
+      reading-put (Some s) found page filled put = subst₂ (λ p c. Reading F from before p c (next + 1)) (sym (put .0)) (sym (put .1)) (reading-found s found)
 
   -- the page is full, or no guess is left
   pub page-done : (from total : ℕ) (before after : List ℕ) (count next : ℕ) → Reading F from before after count next → next ≤ total → (count < length before → next ≡ total) → Page F from total before after count next

@@ -1,9 +1,11 @@
 // The planner, and its calls.
-ghost use Prim.Native.Nat.{_≤_};
+ghost use Prim.Native.Nat.{_+_, _≤_, _<_};
 ghost use Rattle.book.specs.Rows.{GivesLines};
 ghost use Rattle.planner.specs.Tries.{Found, Page, guesses};
 ghost use Rattle.planner.specs.View.{view, facts-of, book-of};
 ghost use Rattle.planner.specs.World.{Step, fresh, wrote, struck, ruled, unruled, listed};
+ghost use Rattle.std.specs.Options.{Cases};
+ghost use lib.ListN.{length, set};
 ghost use mathlib.Core.Path.{_≡_};
 use book::book::Book;
 use book::rows::Rule;
@@ -101,11 +103,21 @@ fn read<F: Facts>(facts: &F, rules: &[Option<Rule>], unless: u64, from: u32, tot
     let mut count = 0;
     let mut next = from;
     while count < page.len() && next < total {
-        if let Some(found) = find(facts, rules, unless, next) {
-            page[count] = found;
-            count += 1;
-        }
+        count = put(page, count, find(facts, rules, unless, next));
         next += 1;
     }
     Listing { count, next }
+}
+
+// Writes what was found to the next free place, and answers how many places are filled then.
+fn put(page: &mut [u64], count: usize, found: Option<u64>) -> usize
+    ensures { λ r. ⌜ (count < length (now (page .entry)) → Cases found ((now (page .exit) ≡ now (page .entry)) × (r ≡ count)) (λ s. (now (page .exit) ≡ set (now (page .entry)) count s) × (r ≡ count + 1))) ⌝ }
+{
+    match found {
+        Some(set) if count < page.len() => {
+            page[count] = set;
+            count + 1
+        }
+        _ => count,
+    }
 }
