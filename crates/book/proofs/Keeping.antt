@@ -3,13 +3,12 @@ use mathlib.Core.Path.{_≡_, refl, sym, ap, subst, _∙_}
 use mathlib.Core.Logic.{_⊎_, inl, inr, ⊎-elim, _≢_}
 use mathlib.Core.List.{List, [], _∷_, map}
 use mathlib.Core.Bool.{Bool, true, false, cond}
-use Prim.Native.Nat.{ℕ, zero, suc, _*_, _%_, _^_, _≤_, _<_}
+use Prim.Native.Nat.{ℕ, zero, suc, _≤_, _<_}
 use native.Mathlib.Omega.{arith}
 use lib.Bits.{bitOr}
 use lib.Count.{ones}
 use lib.Dec.{eqb}
 use lib.ListN.{length, set, take, replicate}
-use Rattle.std.proofs.shelf.Bits.{one-shl}
 use Rattle.std.proofs.shelf.Lists.{map-set}
 use Rattle.std.proofs.shelf.Ways.{decides-eqb, not-from-decides}
 use Rattle.std.specs.Options.{isSome, mapped}
@@ -17,7 +16,7 @@ use Rattle.std.specs.declared.option.Option.{Option}
 use Rattle.std.specs.declared.option.Option.the-variants.{Some, None}
 use Rattle.sets.specs.Sets.{Has, Within}
 use Rattle.sets.proofs.Lines.{or-has, or-has-left, or-has-right, ones-within}
-use Rattle.book.specs.Rows.{at, Full, union, lines-named, unless-lines}
+use Rattle.book.specs.Rows.{at, Full, Vacant, union, unless-lines}
 use Rattle.book.specs.Kept.{Distinct, Given, OnLines, FewUnless, most-unless}
 use Rattle.book.specs.Contents.{Contents, Statement, Held}
 use Rattle.book.specs.Calls.{IsHeld}
@@ -26,19 +25,16 @@ use Rattle.book.specs.declared.rows.LineRow.{LineRow}
 use Rattle.book.specs.declared.rows.Rule.{Rule}
 use Rattle.book.specs.declared.rows.HoldRow.{HoldRow}
 use Rattle.book.specs.declared.rows.Tables.{Tables}
-use Rattle.book.proofs.Tables.{some-same, no-some, not-full, empty-from, at-set, empty-at, at-map, full-map, union-at, union-has, union-set, union-unset}
+use Rattle.book.proofs.Tables.{some-same, no-some, not-full, at-set, empty-at, full-map, union-at, union-has, union-set, union-unset}
 
 module _ {X : Type 0} where
-  -- the same of a place as it is seen through a function of its row
-  module _ {Y : Type 0} (f : X → Y) (rows : List (Option X)) (n : ℕ) where
-    pub not-full-seen : (Full rows n → ⊥) → Full (map (mapped f) rows) n → ⊥
-    not-full-seen out full = out (sym (full-map f rows n) ∙ full)
-
-    pub full-seen : Full rows n → at (map (mapped f) rows) n ≡ None → ⊥
-    full-seen full e = let s : isSome {T = Y} None ≡ true = sym (ap isSome e) ∙ full-map f rows n ∙ full in grind arith
-
-    pub empty-seen : (Full rows n → ⊥) → at (map (mapped f) rows) n ≡ None
-    empty-seen out = at-map f rows n ∙ ap (mapped f) (empty-from rows n out)
+  -- a place that is not empty as it is seen through a function of its row is filled
+  pub full-unless-vacant : {Y : Type 0} (f : X → Y) (rows : List (Option X)) (n : ℕ) → (Vacant (map (mapped f) rows) n → ⊥) → Full rows n
+  full-unless-vacant f rows n filled = by (at rows n) refl
+    where
+      by : (o : Option X) → at rows n ≡ o → Full rows n
+      by None e = absurd (filled (λ full. not-full rows n e (sym (full-map f rows n) ∙ full)))
+      by (Some x) e = ap isSome e
 
   -- ---- what holds of each row
 
@@ -170,8 +166,3 @@ seen-written t k next row words e =
 
 pub seen-struck : (t : Tables) (k : ℕ) → (relined t (t .next) (map (mapped said) (set (t .lines) k None)) ≡ relined t (t .next) (set (map (mapped said) (t .lines)) k None))
 seen-struck t k = ap (relined t (t .next)) (map-set (mapped said) (t .lines) k None)
-
--- ---- the lines that a rule names, as the code computes them
-
-pub named-shift : (r : Rule) → r .gives ≤ 63 → bitOr (bitOr (r .needs) (r .unless)) ((1 * 2 ^ r .gives) % 2 ^ 64) ≡ lines-named r
-named-shift r l = ap (bitOr (bitOr (r .needs) (r .unless))) (one-shl (r .gives) 64 (omega arith))

@@ -38,13 +38,6 @@ module _ {X : Type 0} where
   pub full-below : (rows : List (Option X)) (i : ℕ) → Full rows i → i < length rows
   full-below rows i full = elim (decLt i (length rows)) [ yes l ↦ l | no l ↦ absurd (not-full rows i (getD-past rows i None (omega arith)) full) ]
 
-  pub empty-from : (rows : List (Option X)) (n : ℕ) → (Full rows n → ⊥) → at rows n ≡ None
-  empty-from rows n out = by (at rows n) refl
-    where
-      by : (o : Option X) → at rows n ≡ o → at rows n ≡ None
-      by None e = e
-      by (Some x) e = absurd (out (ap isSome e))
-
   -- what stands at a place after a write to one: what was written, or what stood there
   pub at-set : (rows : List (Option X)) (i j : ℕ) (v : Option X) → (at (set rows i v) j ≡ v × (j ≡ i)) ⊎ (at (set rows i v) j ≡ at rows j)
   at-set rows i j v = elim (ℕ-discrete j i) [

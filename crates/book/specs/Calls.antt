@@ -14,7 +14,7 @@ use Rattle.sets.specs.Sets.{Has}
 use Rattle.sets.specs.Grounds.{Ground, Answered}
 use Rattle.sets.specs.declared.refusal.Refusal.{Refusal}
 use Rattle.sets.specs.declared.refusal.Refusal.the-variants.{OutOfRange, Filled, BadWords, NumbersSpent, Empty, Held, Named, TooManyUnless}
-use Rattle.book.specs.Rows.{at, Full, lines-named, rule-lines, unless-lines}
+use Rattle.book.specs.Rows.{Full, Vacant, lines-named, rule-lines, unless-lines}
 use Rattle.book.specs.Kept.{last-number, most-unless}
 use Rattle.book.specs.Contents.{Contents, Held as OutHold}
 use Rattle.book.specs.declared.rows.Rule.{Rule}
@@ -24,6 +24,10 @@ pub record GoodWords (words : List ℕ) : Type 0 where
   pub some : 1 ≤ length words
   pub few : length words ≤ 24
   pub printable : All (λ b. (33 ≤ b) × (b ≤ 126)) words
+
+-- a rule names the line
+abbrev pub IsNamed : Contents → ℕ → Type 0
+IsNamed c line = Has (rule-lines (c .rules)) line
 
 -- a hold that is out has the line
 abbrev pub IsHeld : Contents → ℕ → Type 0
@@ -55,9 +59,9 @@ Write c line words answer after =
 abbrev pub strike-grounds : ℕ → Contents → ℕ → List Ground
 strike-grounds named c line =
     record { gives = OutOfRange; when = 63 < line }
-    ∷ record { gives = Empty; when = at (c .lines) line ≡ None }
+    ∷ record { gives = Empty; when = Vacant (c .lines) line }
     ∷ record { gives = Held; when = IsHeld c line }
-    ∷ record { gives = Named; when = Has (rule-lines (c .rules)) line ⊎ Has named line }
+    ∷ record { gives = Named; when = IsNamed c line ⊎ Has named line }
     ∷ []
 
 -- the line is empty from now on
@@ -74,11 +78,15 @@ Strike named c line answer after =
       (after ≡ c)
       answer
 
+-- the rule names an empty line
+abbrev pub NamesVacant : Contents → Rule → Type 0
+NamesVacant c rule = (n : ℕ) × Has (lines-named rule) n × Vacant (c .lines) n
+
 abbrev pub rule-grounds : Contents → ℕ → Rule → List Ground
 rule-grounds c place rule =
     record { gives = OutOfRange; when = (39 < place) ⊎ (63 < rule .gives) }
     ∷ record { gives = Filled; when = Full (c .rules) place }
-    ∷ record { gives = Empty; when = (n : ℕ) × Has (lines-named rule) n × (at (c .lines) n ≡ None) }
+    ∷ record { gives = Empty; when = NamesVacant c rule }
     ∷ record { gives = TooManyUnless; when = most-unless < ones (bitOr (unless-lines (c .rules)) (rule .unless)) }
     ∷ []
 
@@ -99,7 +107,7 @@ PutRule c place rule answer after =
 abbrev pub unrule-grounds : Contents → ℕ → List Ground
 unrule-grounds c place =
     record { gives = OutOfRange; when = 39 < place }
-    ∷ record { gives = Empty; when = at (c .rules) place ≡ None }
+    ∷ record { gives = Empty; when = Vacant (c .rules) place }
     ∷ []
 
 -- the place is empty from now on

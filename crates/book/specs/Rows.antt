@@ -19,6 +19,10 @@ at rows i = getD rows i None
 abbrev pub Full : {X : Type 0} → List (Option X) → ℕ → Type 0
 Full rows i = isSome (at rows i) ≡ true
 
+-- the place is empty
+abbrev pub Vacant : {X : Type 0} → List (Option X) → ℕ → Type 0
+Vacant rows i = Full rows i → ⊥
+
 -- every line that a rule names: in its needs, in its unless-set, or given
 abbrev pub lines-named : Rule → ℕ
 lines-named r = bitOr (bitOr (r .needs) (r .unless)) (2 ^ r .gives)

@@ -2,14 +2,13 @@
 use mathlib.Core.Path.{_≡_}
 use mathlib.Core.List.{List, [], _∷_}
 use Prim.Native.Nat.{ℕ, _<_}
-use Rattle.std.specs.declared.option.Option.the-variants.{None}
 use Rattle.std.specs.declared.result.Result.{Result}
 use Rattle.sets.specs.Sets.{Has}
 use Rattle.sets.specs.Grounds.{Ground, Answered}
 use Rattle.sets.specs.declared.refusal.Refusal.{Refusal}
 use Rattle.sets.specs.declared.refusal.Refusal.the-variants.{FactsNameEmpty, FromTooHigh}
 use Rattle.facts.specs.Meaning.{Meaning}
-use Rattle.book.specs.Rows.{at, unless-lines}
+use Rattle.book.specs.Rows.{Vacant, unless-lines}
 use Rattle.book.specs.Contents.{Contents, empty-book}
 use Rattle.book.specs.Calls.{Write, Strike, PutRule, Unrule}
 use Rattle.book.specs.declared.rows.Rule.{Rule}
@@ -36,7 +35,7 @@ pub data Event : Type 0 where
 -- a list is refused if the facts name an empty line, then if it starts above the number of guesses
 abbrev pub list-grounds : Meaning → World → ℕ → List Ground
 list-grounds m w from =
-    record { gives = FactsNameEmpty; when = (n : ℕ) × Has (m .names) n × (at (w .book .lines) n ≡ None) }
+    record { gives = FactsNameEmpty; when = (n : ℕ) × Has (m .names) n × Vacant (w .book .lines) n }
     ∷ record { gives = FromTooHigh; when = guesses (w .book .rules) < from }
     ∷ []
 

@@ -1,13 +1,12 @@
 // The calls that edit a book.
-ghost use Rattle.book.specs.Calls.{Write, Strike, PutRule, Unrule};
+ghost use Prim.Native.Nat.{_<_};
+ghost use Rattle.book.specs.Calls.{NamesVacant, Write, Strike, PutRule, Unrule};
 ghost use Rattle.book.specs.Contents.{empty-book};
+ghost use Rattle.book.specs.Rows.{lines-named};
 ghost use Rattle.book.specs.View.{view};
+ghost use Rattle.std.specs.Orderings.{Decides};
 ghost use mathlib.Core.Path.{_≡_};
 use crate::book::Book;
-use crate::book::read::HoldLines;
-use crate::book::read::RuleLines;
-use crate::book::read::any_has;
-use crate::book::read::filled;
 use crate::book::words;
 use crate::rows::LineRow;
 use crate::rows::Rule;
@@ -20,6 +19,14 @@ const LAST_NUMBER: u32 = 65535;
 
 // How many lines may stand in unless-sets.
 const MOST_UNLESS: u32 = 12;
+
+// The lines that a rule names: needs, unless-set and the line that it gives.
+fn lines_named(rule: &Rule) -> u64
+    requires { ⌜ now rule .gives < 64 ⌝ }
+    ensures { λ r. ⌜ r ≡ lines-named (now (rule .entry)) ⌝ }
+{
+    rule.needs | rule.unless | 1 << rule.gives
+}
 
 impl Book {
     // A new book, with every line and every place empty.
@@ -44,8 +51,7 @@ impl Book {
         if line > 63 {
             return Err(Refusal::OutOfRange);
         }
-        let at = line as usize;
-        if filled(&self.tables.lines, at) {
+        if self.has_statement(line) {
             return Err(Refusal::Filled);
         }
         if !words::good(words) {
@@ -60,7 +66,7 @@ impl Book {
             words: words::padded(words),
             len: words.len(),
         };
-        self.tables.lines[at] = Some(row);
+        self.tables.lines[line as usize] = Some(row);
         self.tables.next = number + 1;
         Ok(number)
     }
@@ -72,17 +78,16 @@ impl Book {
         if line > 63 {
             return Err(Refusal::OutOfRange);
         }
-        let at = line as usize;
-        if !filled(&self.tables.lines, at) {
+        if !self.has_statement(line) {
             return Err(Refusal::Empty);
         }
-        if any_has(&self.tables.holds, line) {
+        if self.is_held(line) {
             return Err(Refusal::Held);
         }
-        if any_has(&self.tables.rules, line) | sets::has(facts.names(), line) {
+        if self.is_named(line) || sets::has(facts.names(), line) {
             return Err(Refusal::Named);
         }
-        self.tables.lines[at] = None;
+        self.tables.lines[line as usize] = None;
         Ok(())
     }
 
@@ -93,19 +98,26 @@ impl Book {
         if place > 39 || rule.gives > 63 {
             return Err(Refusal::OutOfRange);
         }
-        let at = place as usize;
-        if filled(&self.tables.rules, at) {
+        if self.has_rule(place) {
             return Err(Refusal::Filled);
         }
-        if !sets::within(rule.needs | rule.unless | 1 << rule.gives, self.written()) {
+        if self.names_vacant(&rule) {
             return Err(Refusal::Empty);
         }
         let unless = self.unless_lines() | rule.unless;
         if unless.count_ones() > MOST_UNLESS {
             return Err(Refusal::TooManyUnless);
         }
-        self.tables.rules[at] = Some(rule);
+        self.tables.rules[place as usize] = Some(rule);
         Ok(())
+    }
+
+    // Does the rule name an empty line?
+    fn names_vacant(&self, rule: &Rule) -> bool
+        requires { ⌜ now rule .gives < 64 ⌝ }
+        ensures { λ r. ⌜ Decides r (NamesVacant (view (now (self .entry))) (now (rule .entry))) ⌝ }
+    {
+        !sets::within(lines_named(rule), self.written())
     }
 
     // Empties a place.
@@ -115,11 +127,10 @@ impl Book {
         if place > 39 {
             return Err(Refusal::OutOfRange);
         }
-        let at = place as usize;
-        if !filled(&self.tables.rules, at) {
+        if !self.has_rule(place) {
             return Err(Refusal::Empty);
         }
-        self.tables.rules[at] = None;
+        self.tables.rules[place as usize] = None;
         Ok(())
     }
 }

@@ -1,6 +1,6 @@
 // What a book answers about itself.
-ghost use Prim.Native.Nat.{ℕ, _^_, _≤_, _<_};
-ghost use Rattle.book.specs.Kept.{FewUnless};
+ghost use Prim.Native.Nat.{ℕ, _≤_};
+ghost use Rattle.book.specs.Calls.{IsHeld, IsNamed};
 ghost use Rattle.book.specs.Rows.{Full, FullOf, GivesLines, union, lines-named, unless-lines, at};
 ghost use Rattle.book.specs.View.{view, said};
 ghost use Rattle.sets.specs.Sets.{Has};
@@ -39,7 +39,7 @@ pub impl OfLines for HoldRow as HoldLines {
 }
 
 // Is the place filled? None past the end is.
-pub fn filled<R: Copy>(rows: &[Option<R>], place: usize) -> bool
+fn filled<R: Copy>(rows: &[Option<R>], place: usize) -> bool
     ensures { λ r. ⌜ Decides r (Full (now (rows .entry)) place) ⌝ }
 {
     if place >= rows.len() {
@@ -50,7 +50,7 @@ pub fn filled<R: Copy>(rows: &[Option<R>], place: usize) -> bool
 }
 
 // Does some row have the line?
-pub fn any_has<R: OfLines + Copy>(rows: &[Option<R>], line: u32) -> bool
+fn any_has<R: OfLines + Copy>(rows: &[Option<R>], line: u32) -> bool
     ensures { λ r. ⌜ Decides r (Has (union lines (now (rows .entry))) line) ⌝ }
 {
     for row in rows {
@@ -102,6 +102,34 @@ impl Book {
         ensures { λ r. ⌜ r ≡ unless-lines (view (now (self .entry)) .rules) ⌝ }
     {
         all_unless(&self.tables.rules)
+    }
+
+    // Does the line have a statement?
+    pub fn has_statement(&self, line: u32) -> bool
+        ensures { λ r. ⌜ Decides r (Full (view (now (self .entry)) .lines) line) ⌝ }
+    {
+        filled(&self.tables.lines, line as usize)
+    }
+
+    // Does the place have a rule?
+    pub fn has_rule(&self, place: u32) -> bool
+        ensures { λ r. ⌜ Decides r (Full (view (now (self .entry)) .rules) place) ⌝ }
+    {
+        filled(&self.tables.rules, place as usize)
+    }
+
+    // Does a rule name the line?
+    pub fn is_named(&self, line: u32) -> bool
+        ensures { λ r. ⌜ Decides r (IsNamed (view (now (self .entry))) line) ⌝ }
+    {
+        any_has(&self.tables.rules, line)
+    }
+
+    // Does a hold that is out have the line?
+    pub fn is_held(&self, line: u32) -> bool
+        ensures { λ r. ⌜ Decides r (IsHeld (view (now (self .entry))) line) ⌝ }
+    {
+        any_has(&self.tables.holds, line)
     }
 
     // The rule of each place, if it has one. Each gives a line.

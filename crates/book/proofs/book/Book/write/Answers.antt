@@ -1,28 +1,10 @@
 use mathlib.Core.Path.{refl, _∙_}
-use mathlib.Core.Logic.{inl, inr}
 use Prim.Native.Nat.{_≤_, _<_, _+_}
 use native.Mathlib.Omega.{arith}
 use Rattle.std.proofs.shelf.Lists.{length-set}
 use Rattle.std.proofs.shelf.Ways.{not-from-decides}
-use Rattle.book.specs.View.{said}
-use Rattle.book.proofs.Tables.{full-map}
-use Rattle.book.proofs.Keeping.{not-full-seen, distinct-written, each-written, full-written, seen-written}
+use Rattle.book.proofs.Keeping.{distinct-written, each-written, full-written, seen-written}
 use Rattle.book.proofs.book.Book.write.Needs as need
-
-pub returns-then-filled : need.returns-then-filled
-returns-then-filled c =
-    let rows = c .args .self .now .tables .lines in
-    (inr (omega arith, inl (full-map said rows (c .args .line) ∙ c .filled .ensures .0 (c .if-filled .taken), refl)), refl)
-
-pub returns-then-not-good : need.returns-then-not-good
-returns-then-not-good c =
-    let rows = c .args .self .now .tables .lines in
-    (inr (omega arith, inr (not-full-seen said rows (c .args .line) (not-from-decides (c .filled .result) (c .filled .ensures) (c .if-filled .left)), inl (not-from-decides (c .good-2 .result) (c .good-2 .ensures) (c .if-not-good .taken), refl))), refl)
-
-pub returns-then-number-gt-LAST-NUMBER : need.returns-then-number-gt-LAST-NUMBER
-returns-then-number-gt-LAST-NUMBER c =
-    let rows = c .args .self .now .tables .lines in
-    (inr (omega arith, inr (not-full-seen said rows (c .args .line) (not-from-decides (c .filled .result) (c .filled .ensures) (c .if-filled .left)), inr ((λ bad. bad (c .good-2 .ensures .0 (c .if-not-good .left))), inl (c .if-number-gt-LAST-NUMBER .taken, refl)))), refl)
 
 pub ghost-self : need.ghost-self
 ghost-self c =
@@ -45,5 +27,5 @@ returns c =
     let t = b .tables in
     let k = c .args .line in
     let few = c .good-2 .ensures .0 (c .if-not-good .left) .few in
-    ((omega arith, (not-full-seen said (t .lines) k (not-from-decides (c .filled .result) (c .filled .ensures) (c .if-filled .left)), ((λ bad. bad (c .good-2 .ensures .0 (c .if-not-good .left))), (omega arith, tt)))),
+    ((omega arith, (not-from-decides (c .has-statement .result) (c .has-statement .ensures) (c .if-has-statement .left), ((λ bad. bad (c .good-2 .ensures .0 (c .if-not-good .left))), (omega arith, tt)))),
      (refl, seen-written t k (t .next + 1) _ (c .args .words .now) (c .padded .ensures few)))
