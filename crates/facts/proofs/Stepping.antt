@@ -16,34 +16,36 @@ use Rattle.sets.specs.Sets.{Has, Within, IsLines, Smallest}
 use Rattle.sets.proofs.Lines.{or-has, or-has-left, or-has-right, single-has, single-only, within-from-and, and-from-within, same-lines, smallest-like, or-group}
 use Rattle.sets.proofs.Rows.{all-front, all-push, all-pushed}
 use Rattle.facts.specs.Meaning.{Meaning, Lawful}
-use Rattle.facts.specs.Steps.{IsStep, no-step, Obeys, Closed, Follows, lines-of, pass, settle, stepped}
+use Rattle.facts.specs.Steps.{IsStep, no-step, Obeys, Fires, Closed, Follows, lines-in, lines-of, pass, settle, stepped}
 use Rattle.facts.specs.Told.{told}
 use Rattle.facts.specs.declared.step.Step.{Step}
 use Rattle.facts.specs.declared.steps.Steps.{Steps}
 use Rattle.facts.specs.Closure.{Passed}
-use Rattle.facts.proofs.Closure.{passed-none, passed-line, passed-then, Stable, Reached, reached-start, reached-more, reached-done, reached-less}
+use Rattle.facts.proofs.Closure.{passed-none, passed-then, Stable, Reached, reached-start, reached-more, reached-done, reached-less}
 
--- a step whose needs are in adds its line
-pub passed-fires : (x : Step) (a b : ℕ) → Within (x .needs) a → IsLines b → Within a b → Has b (x .gives) → ((n : ℕ) → Has b n → Has a n ⊎ (n ≡ x .gives)) → Passed (λ c. Obeys c x) a b
-passed-fires x a b w l up here only =
-    passed-line (λ c. Obeys c x) a b (x .gives) l up only (λ c o v. o (λ n h. v n (w n h))) (λ _. here)
-
--- a step whose needs are not in adds nothing
-pub passed-rests : (x : Step) (a : ℕ) → IsLines a → (Within (x .needs) a → ⊥) → Passed (λ c. Obeys c x) a a
-passed-rests x a l out = passed-none (λ c. Obeys c x) a l (λ w. absurd (out w))
+-- a step that was tried is obeyed
+pub passed-step : (x : Step) (a b : ℕ) → IsLines b → Fires x a b → Passed (λ c. Obeys c x) a b
+passed-step x a b l f = record {
+  lines = l;
+  grows = f .old;
+  inside = λ c _ o w n h. ⊎-elim (w n) (λ k. subst (Has c) (sym (k .1)) (o (λ i g. w i (k .0 i g)))) (f .only n h);
+  done = λ e needs. subst (λ s. Has s (x .gives)) e (f .new needs);
+}
 
 one-pass : (x : Step) (s : ℕ) → IsStep x → IsLines s → Passed (λ c. Obeys c x) s (cond (eqb (bitAnd (x .needs) s) (x .needs)) (bitOr s (2 ^ x .gives)) s)
 one-pass x s is l = by (eqb (bitAnd (x .needs) s) (x .needs)) refl
   where
     by : (b : Bool) → eqb (bitAnd (x .needs) s) (x .needs) ≡ b → Passed (λ c. Obeys c x) s (cond b (bitOr s (2 ^ x .gives)) s)
     by true e =
-        passed-fires x s (bitOr s (2 ^ x .gives)) (within-from-and (x .needs) s (decides-eqb (bitAnd (x .needs) s) (x .needs) .0 e))
-          (or-lt 64 s (2 ^ x .gives) l (pow-below (x .gives) 64 (is .1)))
-          (λ n h. or-has-left s (2 ^ x .gives) n h)
-          (or-has-right s (2 ^ x .gives) (x .gives) (single-has (x .gives)))
-          (λ n h. ⊎-elim inl (λ k. inr (single-only (x .gives) n k)) (or-has s (2 ^ x .gives) n h))
+        let needs = within-from-and (x .needs) s (decides-eqb (bitAnd (x .needs) s) (x .needs) .0 e) in
+        passed-step x s (bitOr s (2 ^ x .gives)) (or-lt 64 s (2 ^ x .gives) l (pow-below (x .gives) 64 (is .1))) (record {
+          old = λ n h. or-has-left s (2 ^ x .gives) n h;
+          new = λ _. or-has-right s (2 ^ x .gives) (x .gives) (single-has (x .gives));
+          only = λ n h. ⊎-elim inl (λ k. inr (needs, single-only (x .gives) n k)) (or-has s (2 ^ x .gives) n h);
+        })
     by false e =
-        passed-rests x s l (λ w. not-from-decides _ (decides-eqb (bitAnd (x .needs) s) (x .needs)) e (and-from-within (x .needs) s w))
+        let out = not-from-decides _ (decides-eqb (bitAnd (x .needs) s) (x .needs)) e in
+        passed-step x s s l (record { old = λ n h. h; new = λ w. absurd (out (and-from-within (x .needs) s w)); only = λ n h. inl h })
 
 pass-passed : (steps : List Step) (s : ℕ) → All IsStep steps → IsLines s → Passed (λ c. All (Obeys c) steps) s (pass steps s)
 pass-passed [] s is l = passed-none (λ c. Unit {0}) s l tt
@@ -95,7 +97,7 @@ lines-of-lines (x ∷ xs) are =
 obeys-named : (steps : List Step) (s : ℕ) → Within (lines-of steps) s → All (Obeys s) steps
 obeys-named [] s w = tt
 obeys-named (x ∷ xs) s w =
-    let own = bitOr (x .needs) (2 ^ x .gives) in
+    let own = lines-in x in
     (λ _. w (x .gives) (or-has-left own (lines-of xs) (x .gives) (or-has-right (x .needs) (2 ^ x .gives) (x .gives) (single-has (x .gives)))),
      obeys-named xs s (λ n h. w n (or-has-right own (lines-of xs) n h)))
 
@@ -155,11 +157,11 @@ pass-more steps i s a b lt p q =
         (λ c all. all-pushed (Obeys c) (take i steps) x all) (λ c all here. all-push (Obeys c) (take i steps) x all here) p q)
 
 -- one step more was named
-pub named-more : (steps : List Step) (i all : ℕ) → i < length steps → bitOr all (lines-of (drop i steps)) ≡ bitOr (bitOr all (bitOr (getD steps i no-step .needs) (2 ^ getD steps i no-step .gives))) (lines-of (drop (i + 1) steps))
+pub named-more : (steps : List Step) (i all : ℕ) → i < length steps → bitOr all (lines-of (drop i steps)) ≡ bitOr (bitOr all (lines-in (getD steps i no-step))) (lines-of (drop (i + 1) steps))
 named-more steps i all lt =
     let x = getD steps i no-step in
     ap (λ ys. bitOr all (lines-of ys)) (drop-more steps i no-step lt)
-      ∙ sym (or-group all (bitOr (x .needs) (2 ^ x .gives)) (lines-of (drop (i + 1) steps)))
+      ∙ sym (or-group all (lines-in x) (lines-of (drop (i + 1) steps)))
 
 -- what was told to facts of steps are steps
 pub told-are : {F : Type 0} (f : Steps F) → All IsStep (told f)

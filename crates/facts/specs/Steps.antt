@@ -1,6 +1,7 @@
 -- Facts told by steps: with all these lines in, this line too.
 use mathlib.Core.Path.{_≡_}
 use mathlib.Core.List.{List, [], _∷_}
+use mathlib.Core.Logic.{_⊎_}
 use mathlib.Core.Bool.{true, false, cond}
 use Prim.Native.Nat.{ℕ, zero, suc, _^_, _<_}
 use lib.Bits.{bitAnd, bitOr}
@@ -26,6 +27,12 @@ no-step = record { needs = 0; gives = 0 }
 abbrev pub Obeys : ℕ → Step → Type 0
 Obeys s x = Within (x .needs) s → Has s (x .gives)
 
+-- One step takes s to r: with its needs in s it adds its line and nothing else; without them it adds nothing.
+pub record Fires (x : Step) (s r : ℕ) : Type 0 where
+  pub old : Within s r
+  pub new : Within (x .needs) s → Has r (x .gives)
+  pub only : (n : ℕ) → Has r n → Has s n ⊎ (Within (x .needs) s × (n ≡ x .gives))
+
 -- s has `start`, the facts below leave it as it is, and it obeys each step
 pub record Closed (m : Meaning) (steps : List Step) (start s : ℕ) : Type 0 where
   pub starts : Within start s
@@ -37,9 +44,13 @@ abbrev pub Follows : Meaning → List Step → ℕ → ℕ → Type 0
 Follows m steps start s = Smallest (Closed m steps start) s
 
 -- every line in a step, needs and gives
+abbrev pub lines-in : Step → ℕ
+lines-in x = bitOr (x .needs) (2 ^ x .gives)
+
+-- every line in the steps
 abbrev pub lines-of : List Step → ℕ
 lines-of [] = 0
-lines-of (x ∷ xs) = bitOr (bitOr (x .needs) (2 ^ x .gives)) (lines-of xs)
+lines-of (x ∷ xs) = bitOr (lines-in x) (lines-of xs)
 
 -- A way to compute what follows: pass over the steps and ask the facts below, until nothing is added.
 abbrev pub pass : List Step → ℕ → ℕ

@@ -15,7 +15,7 @@ pub fn has(set: u64, line: u32) -> bool
     if line > 63 {
         return false;
     }
-    (set >> line) & 1 == 1
+    (set >> line) % 2 == 1
 }
 
 // Does every line of the first set lie in the second?

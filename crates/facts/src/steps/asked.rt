@@ -1,8 +1,8 @@
 // What steps answer: the smallest set closed under them, and every line that they name.
-ghost use Prim.Native.Nat.{_^_};
+ghost use Prim.Native.Nat.{_<_};
 ghost use Rattle.facts.specs.Closure.{Passed};
 ghost use Rattle.facts.specs.Meaning.{Meaning};
-ghost use Rattle.facts.specs.Steps.{IsStep, Obeys, Follows, lines-of, stepped};
+ghost use Rattle.facts.specs.Steps.{IsStep, Obeys, Fires, Follows, lines-in, lines-of, stepped};
 ghost use Rattle.facts.specs.Told.{told};
 ghost use Rattle.std.specs.shelf.Lists.{All};
 ghost use lib.Bits.{bitOr};
@@ -11,27 +11,45 @@ use crate::Facts;
 use crate::step::Step;
 use crate::steps::Steps;
 
+// The set after one step: with its line, if its needs are in.
+fn fire(step: &Step, set: u64) -> u64
+    requires { ⌜ now step .gives < 64 ⌝ }
+    ensures { λ r. ⌜ Fires (now (step .entry)) set r ⌝ }
+{
+    if sets::within(step.needs, set) {
+        sets::with(set, step.gives)
+    } else {
+        set
+    }
+}
+
 // One pass over the steps: each whose needs are in adds its line.
 fn pass(steps: &[Step], mut set: u64) -> u64
     requires { ⌜ All IsStep (now steps) ⌝ }
     ensures { λ r. ⌜ Passed (λ c. All (Obeys c) (now (steps .entry))) set r ⌝ }
 {
     for step in steps {
-        if sets::within(step.needs, set) {
-            set = sets::with(set, step.gives);
-        }
+        set = fire(step, set);
     }
     set
 }
 
-// Every line in a step, needs and gives, and the lines of `named`.
+// Every line in a step, needs and gives.
+fn lines(step: &Step) -> u64
+    requires { ⌜ now step .gives < 64 ⌝ }
+    ensures { λ r. ⌜ r ≡ lines-in (now (step .entry)) ⌝ }
+{
+    step.needs | 1 << step.gives
+}
+
+// Every line in the steps, and the lines of `named`.
 fn name_all(steps: &[Step], named: u64) -> u64
     requires { ⌜ All IsStep (now steps) ⌝ }
     ensures { λ r. ⌜ r ≡ bitOr named (lines-of (now (steps .entry))) ⌝ }
 {
     let mut all = named;
     for step in steps {
-        all = all | (step.needs | 1 << step.gives);
+        all = all | lines(step);
     }
     all
 }
