@@ -52,11 +52,27 @@ module _ {X : Type 0} where
   pub empty-at : (n j : ℕ) → at {X = X} (replicate n None) j ≡ None
   empty-at n j = replicate-each n None j
 
+-- a place whose row has a number is filled
+pub full-from-number : {X : Type 0} (number : X → ℕ) (rows : List (Option X)) (i n : ℕ) → mapped number (at rows i) ≡ Some n → Full rows i
+full-from-number {X = X} number rows i n e = by (at rows i) refl
+  where
+    by : (o : Option X) → at rows i ≡ o → Full rows i
+    by None f = absurd (no-some (sym (ap (mapped number) f) ∙ e))
+    by (Some x) f = ap isSome f
+
 -- what is told of a place by a function of the row is told of the table of those
 pub at-map : {X Y : Type 0} (f : X → Y) (rows : List (Option X)) (j : ℕ) → at (map (mapped f) rows) j ≡ mapped f (at rows j)
 at-map f [] j = refl
 at-map f (row ∷ rows) zero = refl
 at-map f (row ∷ rows) (suc j) = at-map f rows j
+
+-- two functions of a row, one after the other
+pub at-map-map : {X Y Z : Type 0} (g : Y → Z) (f : X → Y) (rows : List (Option X)) (j : ℕ) → mapped g (at (map (mapped f) rows) j) ≡ mapped (λ x. g (f x)) (at rows j)
+at-map-map {X = X} g f rows j = ap (mapped g) (at-map f rows j) ∙ twice (at rows j)
+  where
+    twice : (o : Option X) → mapped g (mapped f o) ≡ mapped (λ x. g (f x)) o
+    twice None = refl
+    twice (Some x) = refl
 
 some-mapped : {X Y : Type 0} (f : X → Y) (o : Option X) → isSome (mapped f o) ≡ isSome o
 some-mapped f None = refl

@@ -1,9 +1,10 @@
--- No statement of a book has more than 24 bytes of words.
+-- Words: no statement of a book has more than 24 bytes of them, and how they are copied byte by byte.
 use mathlib.Core.Path.{_≡_, refl, sym, ap, _∙_}
-use Prim.Native.Nat.{ℕ, _≤_}
+use mathlib.Core.List.{List, [], _∷_, _++_}
+use Prim.Native.Nat.{ℕ, _+_, _≤_, _<_}
 use native.Mathlib.Omega.{arith}
-use lib.ListN.{length}
-use Rattle.std.proofs.shelf.Lists.{length-take}
+use lib.ListN.{length, getD, set, take, drop}
+use Rattle.std.proofs.shelf.Lists.{append-assoc, length-take, length-take-le, take-more, drop-more, set-at}
 use Rattle.std.specs.Options.{mapped}
 use Rattle.std.specs.declared.option.Option.{Option}
 use Rattle.std.specs.declared.option.Option.the-variants.{Some, None}
@@ -23,3 +24,12 @@ words-few b n s e = by (at (b .tables .lines) n) refl (sym (at-map said (b .tabl
         let few = b .worded n row here in
         let same = ap (λ x. length (x .words)) (some-same f) in
         omega (arith, length-take (row .len) (row .words))
+
+-- one byte more was copied
+pub copied-more : (bytes buffer : List ℕ) (i : ℕ) → i < length bytes → i < length buffer → set (take i bytes ++ drop i buffer) i (getD bytes i 0) ≡ take (i + 1) bytes ++ drop (i + 1) buffer
+copied-more bytes buffer i lt room =
+    let front : length (take i bytes) ≡ i = length-take-le i bytes (omega arith) in
+    ap (λ rest. set (take i bytes ++ rest) i (getD bytes i 0)) (drop-more buffer i 0 room)
+      ∙ set-at (take i bytes) (getD buffer i 0) (drop (i + 1) buffer) (getD bytes i 0) i front
+      ∙ sym (append-assoc (take i bytes) (getD bytes i 0 ∷ []) (drop (i + 1) buffer))
+      ∙ ap (λ f. f ++ drop (i + 1) buffer) (sym (take-more bytes i 0 lt))

@@ -1,11 +1,12 @@
 -- The calls that edit a book: on which grounds each is refused, and what an accepted one changes.
 use mathlib.Core.Path.{_≡_}
 use mathlib.Core.Logic.{_⊎_}
-use mathlib.Core.List.{List, [], _∷_}
+use mathlib.Core.List.{List, [], _∷_, _++_}
 use Prim.Native.Nat.{ℕ, _+_, _≤_, _<_}
 use lib.Bits.{bitOr}
 use lib.Count.{ones}
-use lib.ListN.{length, set}
+use lib.ListN.{length, set, drop}
+use Rattle.std.specs.Options.{Cases, mapped}
 use Rattle.std.specs.shelf.Lists.{All}
 use Rattle.std.specs.declared.option.Option.{Option}
 use Rattle.std.specs.declared.option.Option.the-variants.{Some, None}
@@ -13,11 +14,12 @@ use Rattle.std.specs.declared.result.Result.{Result}
 use Rattle.sets.specs.Sets.{Has}
 use Rattle.sets.specs.Grounds.{Ground, Answered}
 use Rattle.sets.specs.declared.refusal.Refusal.{Refusal}
-use Rattle.sets.specs.declared.refusal.Refusal.the-variants.{OutOfRange, Filled, BadWords, NumbersSpent, Empty, Held, Named, TooManyUnless}
-use Rattle.book.specs.Rows.{Full, Vacant, lines-named, rule-lines, unless-lines}
+use Rattle.sets.specs.declared.refusal.Refusal.the-variants.{OutOfRange, Filled, BadWords, NumbersSpent, Empty, Held, Named, TooManyUnless, BufferTooShort}
+use Rattle.book.specs.Rows.{at, Full, Vacant, lines-named, rule-lines, unless-lines}
 use Rattle.book.specs.Kept.{last-number, most-unless}
-use Rattle.book.specs.Contents.{Contents, Held as OutHold}
+use Rattle.book.specs.Contents.{Contents, Statement, Held as OutHold}
 use Rattle.book.specs.declared.rows.Rule.{Rule}
+use Rattle.book.specs.declared.rows.Wording.{Wording}
 
 -- words are 1 to 24 bytes, each from 33 to 126
 pub record GoodWords (words : List ℕ) : Type 0 where
@@ -103,6 +105,36 @@ PutRule c place rule answer after =
       })
       (after ≡ c)
       answer
+
+-- the words of the line do not fit a buffer of this length
+abbrev pub TooShort : Contents → ℕ → ℕ → Type 0
+TooShort c line room = (s : Statement) × (at (c .lines) line ≡ Some s) × (room < length (s .words))
+
+abbrev pub words-grounds : Contents → ℕ → ℕ → List Ground
+words-grounds c line room =
+    record { gives = OutOfRange; when = 63 < line }
+    ∷ record { gives = Empty; when = Vacant (c .lines) line }
+    ∷ record { gives = BufferTooShort; when = TooShort c line room }
+    ∷ []
+
+-- The words of the line stand at the buffer's start, and the rest of the buffer stays; the answer is their length and the number.
+pub record Said (c : Contents) (line : ℕ) (before after : List ℕ) (len number : ℕ) : Type 0 where
+  pub statement : Statement
+  pub here : at (c .lines) line ≡ Some statement
+  pub length-is : len ≡ length (statement .words)
+  pub number-is : number ≡ statement .number
+  pub bytes : after ≡ statement .words ++ drop len before
+
+abbrev pub SayWords : Contents → ℕ → List ℕ → List ℕ → Result Wording Refusal → Type 0
+SayWords c line before after answer = Answered (words-grounds c line (length before)) (λ w. Said c line before after (w .len) (w .number)) (after ≡ before) answer
+
+-- the number of the line's statement, if it has one
+abbrev pub number-at : Contents → ℕ → Option ℕ
+number-at c line = mapped (λ s. s .number) (at (c .lines) line)
+
+-- the line that has this number now, or none
+abbrev pub Where : Contents → ℕ → Option ℕ → Type 0
+Where c number answer = Cases answer ((line : ℕ) → number-at c line ≡ Some number → ⊥) (λ line. number-at c line ≡ Some number)
 
 abbrev pub unrule-grounds : Contents → ℕ → List Ground
 unrule-grounds c place =

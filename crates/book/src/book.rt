@@ -6,6 +6,7 @@ ghost use mathlib.Core.Path.{_≡_};
 use crate::rows::Tables;
 mod edit;
 mod read;
+mod search;
 mod words;
 
 #[derive(Drop)]

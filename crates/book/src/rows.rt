@@ -1,7 +1,4 @@
 // The rows of the book's tables.
-ghost use Prim.Native.Nat.{ℕ};
-ghost use Rattle.sets.specs.Sets.{Has};
-ghost use Rattle.std.specs.Orderings.{Decides};
 
 // The statement on a line: its number, and its words in the first `len` bytes.
 #[derive(Clone, Copy)]
@@ -24,6 +21,13 @@ pub struct Rule {
 pub struct HoldRow {
     pub number: u32,
     pub lines: u64,
+}
+
+// What `words` answers: how many bytes the words are, and the statement's number.
+#[derive(Clone, Copy, PartialEq, Eq, Debug)]
+pub struct Wording {
+    pub len: usize,
+    pub number: u32,
 }
 
 // The plain tables of a book.

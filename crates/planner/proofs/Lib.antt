@@ -1,2 +1,5 @@
 mod Rounds
-mod Reading
+mod Trying
+pub mod MenuLaws
+mod Pages
+mod FullReading

@@ -24,7 +24,8 @@ use Rattle.facts.proofs.Closure.{passed-none, passed-line, passed-then, Stable}
 use Rattle.book.specs.Rows.{at}
 use Rattle.book.specs.declared.rows.Rule.{Rule}
 use Rattle.book.proofs.Tables.{full-below, some-same}
-use Rattle.planner.specs.Tries.{Open, Obeys, Closed, Found}
+use Rattle.planner.specs.Menus.{Open, Obeys, Closed}
+use Rattle.planner.specs.Tries.{Found}
 
 -- an unless-set that has no line in common with the guess leaves the rule open
 pub open-decides : (r : Rule) (e : ℕ) → Decides (eqb (bitAnd (r .unless) e) 0) (Open r e)

@@ -1,15 +1,20 @@
 // The planner, and its calls.
 ghost use Prim.Native.Nat.{_+_, _≤_, _<_};
 ghost use Rattle.book.specs.Rows.{GivesLines};
-ghost use Rattle.planner.specs.Tries.{Found, Page, guesses};
+ghost use Rattle.planner.specs.Laws.{MenuLaws};
+ghost use Rattle.planner.specs.Tries.{Found, Stopped};
 ghost use Rattle.planner.specs.View.{view, facts-of, book-of};
-ghost use Rattle.planner.specs.World.{Step, fresh, wrote, struck, ruled, unruled, listed};
+ghost use Rattle.planner.specs.World.{NameEmpty, Step, fresh, guesses, guessed-of, wrote, struck, ruled, unruled, said, sought, stood, listed};
+ghost use Rattle.sets.specs.Sets.{IsLines};
 ghost use Rattle.std.specs.Options.{Cases};
+ghost use Rattle.std.specs.Orderings.{Decides};
 ghost use lib.ListN.{length, set};
 ghost use mathlib.Core.Path.{_≡_};
 use book::book::Book;
 use book::rows::Rule;
+use book::rows::Wording;
 use crate::listing::Listing;
+use crate::tries::close;
 use crate::tries::find;
 use facts::Facts;
 use sets::refusal::Refusal;
@@ -26,6 +31,7 @@ impl<F: Facts> Planner<F> {
     pub fn new(number: u32, facts: F) -> Planner<F>
         ensures made { λ r. ⌜ view r ≡ fresh number ⌝ }
         ensures facts { λ r. ⌜ facts-of r ≡ facts ⌝ }
+        ensures menus { λ _. ⌜ MenuLaws (F·Facts .meaning facts) ⌝ }
     {
         Planner {
             number,
@@ -68,16 +74,49 @@ impl<F: Facts> Planner<F> {
 
     // How many guesses there are, one for each part of the lines in unless-sets.
     pub fn guesses(&self) -> u32
-        ensures { λ r. ⌜ r ≡ guesses (view (now (self .entry)) .book .rules) ⌝ }
+        ensures count { λ r. ⌜ r ≡ guesses (view (now (self .entry))) ⌝ }
+        ensures lines { λ _. ⌜ IsLines (guessed-of (view (now (self .entry)))) ⌝ }
     {
         1 << self.book.unless_lines().count_ones()
+    }
+
+    // Copies the words of a line to the buffer's start, and answers their length and the number.
+    pub fn words(&self, line: u32, buffer: &mut [u8]) -> Result<Wording, Refusal>
+        ensures { λ r. ⌜ Step (F·Facts .meaning (facts-of (now (self .entry)))) (view (now (self .entry))) (said line (now (buffer .entry)) (now (buffer .exit)) r) (view (now (self .entry))) ⌝ }
+    {
+        self.book.words(line, buffer)
+    }
+
+    // The line that has this number now, or none.
+    pub fn where_is(&self, number: u32) -> Option<u32>
+        ensures { λ r. ⌜ Step (F·Facts .meaning (facts-of (now (self .entry)))) (view (now (self .entry))) (sought number r) (view (now (self .entry))) ⌝ }
+    {
+        self.book.where_is(number)
+    }
+
+    // Do the facts name an empty line?
+    fn facts_name_empty(&self) -> bool
+        ensures { λ r. ⌜ Decides r (NameEmpty (F·Facts .meaning (facts-of (now (self .entry)))) (view (now (self .entry)))) ⌝ }
+    {
+        !sets::within(self.facts.names(), self.book.written())
+    }
+
+    // Is this set a menu?
+    pub fn stands(&self, set: u64) -> Result<bool, Refusal>
+        ensures { λ r. ⌜ Step (F·Facts .meaning (facts-of (now (self .entry)))) (view (now (self .entry))) (stood set r) (view (now (self .entry))) ⌝ }
+    {
+        if self.facts_name_empty() {
+            return Err(Refusal::FactsNameEmpty);
+        }
+        let least = close(&self.facts, self.book.rules(), set);
+        Ok(least == set)
     }
 
     // Writes what the guesses find, from a guess on, to the page: it stops when the page is full or no guess is left.
     pub fn list(&self, from: u32, page: &mut [u64]) -> Result<Listing, Refusal>
         ensures { λ r. ⌜ Step (F·Facts .meaning (facts-of (now (self .entry)))) (view (now (self .entry))) (listed from (now (page .entry)) (now (page .exit)) r) (view (now (self .entry))) ⌝ }
     {
-        if !sets::within(self.facts.names(), self.book.written()) {
+        if self.facts_name_empty() {
             return Err(Refusal::FactsNameEmpty);
         }
         let total = self.guesses();
@@ -98,7 +137,7 @@ impl<F: Facts> Planner<F> {
 // Tries the guesses from `from` on, and writes each set found to the next place.
 fn read<F: Facts>(facts: &F, rules: &[Option<Rule>], unless: u64, from: u32, total: u32, page: &mut [u64]) -> Listing
     requires { ⌜ GivesLines (now rules) ⌝ ∗ ⌜ from ≤ total ⌝ }
-    ensures { λ r. ⌜ Page (Found (F·Facts .meaning (now (facts .entry))) (now (rules .entry)) unless) from total (now (page .entry)) (now (page .exit)) (r .count) (r .next) ⌝ }
+    ensures { λ r. ⌜ Stopped (Found (F·Facts .meaning (now (facts .entry))) (now (rules .entry)) unless) from total (now (page .entry)) (now (page .exit)) (r .count) (r .next) ⌝ }
 {
     let mut count = 0;
     let mut next = from;
@@ -110,7 +149,7 @@ fn read<F: Facts>(facts: &F, rules: &[Option<Rule>], unless: u64, from: u32, tot
 }
 
 // Writes what was found to the next free place, and answers how many places are filled then.
-fn put(page: &mut [u64], count: usize, found: Option<u64>) -> usize
+pub fn put(page: &mut [u64], count: usize, found: Option<u64>) -> usize
     ensures { λ r. ⌜ (count < length (now (page .entry)) → Cases found ((now (page .exit) ≡ now (page .entry)) × (r ≡ count)) (λ s. (now (page .exit) ≡ set (now (page .entry)) count s) × (r ≡ count + 1))) ⌝ }
 {
     match found {

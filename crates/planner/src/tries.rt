@@ -2,7 +2,8 @@
 ghost use Prim.Native.Nat.{ℕ};
 ghost use Rattle.book.specs.Rows.{GivesLines};
 ghost use Rattle.facts.specs.Closure.{Passed};
-ghost use Rattle.planner.specs.Tries.{Open, Obeys, Closed, Found};
+ghost use Rattle.planner.specs.Menus.{Open, Obeys, Closed};
+ghost use Rattle.planner.specs.Tries.{Found};
 ghost use Rattle.sets.specs.Sets.{Within, Smallest};
 ghost use Rattle.std.specs.Options.{Cases};
 ghost use Rattle.std.specs.Orderings.{Decides};
@@ -32,7 +33,7 @@ fn round(rules: &[Option<Rule>], guess: u64, mut set: u64) -> u64
 }
 
 // Rounds over the rules, each followed by the facts, until one adds nothing.
-fn close<F: Facts>(facts: &F, rules: &[Option<Rule>], guess: u64) -> u64
+pub fn close<F: Facts>(facts: &F, rules: &[Option<Rule>], guess: u64) -> u64
     requires { ⌜ GivesLines (now rules) ⌝ }
     ensures { λ r. ⌜ Smallest (Closed (F·Facts .meaning (now (facts .entry))) (now (rules .entry)) guess) r ⌝ }
 {

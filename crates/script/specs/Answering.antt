@@ -9,9 +9,8 @@ use Rattle.std.specs.declared.result.Result.{Result}
 use Rattle.std.specs.declared.result.Result.the-variants.{Ok, Err}
 use Rattle.sets.specs.declared.refusal.Refusal.{Refusal}
 use Rattle.sets.specs.declared.refusal.Refusal.the-variants.{BufferTooShort}
-use Rattle.planner.specs.Tries.{guesses}
 use Rattle.planner.specs.View.{view}
-use Rattle.planner.specs.World.{wrote, struck, ruled, unruled}
+use Rattle.planner.specs.World.{guesses, wrote, struck, ruled, unruled}
 use Rattle.planner.specs.declared.listing.Listing as listing
 use Rattle.planner.specs.declared.planner.Planner.{Planner}
 use Rattle.script.specs.Calls.{ScriptFacts, Begun, Started, Stepped, Called, Listed}
@@ -27,7 +26,7 @@ use Rattle.script.specs.declared.session.State.the-variants.{Collecting, Plann
 
 -- the text for a page that was listed, or for a refusal
 abbrev pub pageText : Planner ScriptFacts → List ℕ → Result listing.Listing Refusal → List ℕ
-pageText planner page (Ok found) = listedText (view planner .book) page (found .count) (found .next) (guesses (view planner .book .rules))
+pageText planner page (Ok found) = listedText (view planner .book) page (found .count) (found .next) (guesses (view planner))
 pageText planner page (Err why) = noText why
 
 -- The text that a planner answers to a list line.

@@ -1,6 +1,6 @@
 // What a book answers about itself.
 ghost use Prim.Native.Nat.{ℕ, _≤_};
-ghost use Rattle.book.specs.Calls.{IsHeld, IsNamed};
+ghost use Rattle.book.specs.Calls.{IsHeld, IsNamed, SayWords, Where};
 ghost use Rattle.book.specs.Rows.{Full, FullOf, GivesLines, union, lines-named, unless-lines, at};
 ghost use Rattle.book.specs.View.{view, said};
 ghost use Rattle.sets.specs.Sets.{Has};
@@ -9,9 +9,14 @@ ghost use Rattle.std.specs.Orderings.{Decides};
 ghost use Rattle.std.specs.declared.option.Option.the-variants.{Some};
 ghost use mathlib.Core.Path.{_≡_};
 use crate::book::Book;
+use crate::book::search::LineNumber;
+use crate::book::search::place_of;
+use crate::book::words::copy;
 use crate::rows::HoldRow;
 use crate::rows::LineRow;
 use crate::rows::Rule;
+use crate::rows::Wording;
+use sets::refusal::Refusal;
 
 // A row that has lines.
 pub trait OfLines {
@@ -138,6 +143,36 @@ impl Book {
         ensures lines { λ r. ⌜ GivesLines (now r) ⌝ }
     {
         &self.tables.rules
+    }
+
+    // Copies the words of a line to the buffer's start.
+    pub fn words(&self, line: u32, buffer: &mut [u8]) -> Result<Wording, Refusal>
+        ensures { λ r. ⌜ SayWords (view (now (self .entry))) line (now (buffer .entry)) (now (buffer .exit)) r ⌝ }
+    {
+        if line > 63 {
+            return Err(Refusal::OutOfRange);
+        }
+        let Some(row) = self.statement(line) else {
+            return Err(Refusal::Empty);
+        };
+        if buffer.len() < row.len {
+            return Err(Refusal::BufferTooShort);
+        }
+        copy(&row.words[0..row.len], buffer);
+        Ok(Wording {
+            len: row.len,
+            number: row.number,
+        })
+    }
+
+    // The line that has this number now, or none.
+    pub fn where_is(&self, number: u32) -> Option<u32>
+        ensures { λ r. ⌜ Where (view (now (self .entry))) number r ⌝ }
+    {
+        match place_of(&self.tables.lines, number) {
+            Some(line) => Some(line as u32),
+            None => None,
+        }
     }
 
     // The statement of a line, if it has one.

@@ -3,7 +3,8 @@ ghost use Prim.Native.Nat.{_≤_};
 ghost use Rattle.book.specs.Calls.{GoodWords};
 ghost use Rattle.std.specs.Orderings.{Decides};
 ghost use Rattle.std.specs.shelf.Lists.{All};
-ghost use lib.ListN.{length, take};
+ghost use lib.ListN.{length, take, drop};
+ghost use mathlib.Core.List.{_++_};
 ghost use mathlib.Core.Path.{_≡_};
 
 pub const MOST_BYTES: usize = 24;
@@ -44,4 +45,15 @@ pub fn padded(words: &[u8]) -> [u8; MOST_BYTES]
         }
     }
     bytes
+}
+
+// Copies bytes to the start of a buffer that has room for them.
+pub fn copy(bytes: &[u8], buffer: &mut [u8])
+    ensures { λ _. ⌜ (length (now (bytes .entry)) ≤ length (now (buffer .entry)) → now (buffer .exit) ≡ now (bytes .entry) ++ drop (length (now (bytes .entry))) (now (buffer .entry))) ⌝ }
+{
+    for (i, byte) in bytes.iter().enumerate() {
+        if i < buffer.len() {
+            buffer[i] = *byte;
+        }
+    }
 }

@@ -1,12 +1,9 @@
-use mathlib.Core.Path.{_≡_}
-use Prim.Native.Nat.{_-_, _≤_, _<_}
-use lib.ListN.{length}
-use Rattle.planner.specs.Tries.{Found}
-use Rattle.planner.proofs.Reading.{Reading}
+use Prim.Native.Nat.{_-_}
+use Rattle.planner.specs.Tries.{Found, Reading}
 use Rattle.planner.proofs.planner.read.Given as given
 
 abbrev pub Inv-loop-count : given.InvT-loop-count
-Inv-loop-count g l = (l .next ≤ l .total) × Reading (Found (g .F·Facts .meaning (l .facts)) (l .rules) (l .unless)) (l .from) (l .entry .page) (l .page) (l .count) (l .next)
+Inv-loop-count g l = Reading (Found (g .F·Facts .meaning (l .facts)) (l .rules) (l .unless)) (l .from) (l .total) (l .entry .page) (l .page) (l .count) (l .next)
 
 abbrev pub μ-loop-count : given.MeasureT-loop-count
 μ-loop-count g l = l .total - l .next

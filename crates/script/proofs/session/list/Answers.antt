@@ -21,7 +21,7 @@ returns-in-Ok c =
     let full : length page ≡ 16 = c .list .kept .page in
     let e =
     ap (λ b. listedText (book-view b) page (found .count) (found .next) (c .guesses .result)) (c .book .ensures)
-    ∙ ap (λ g. listedText (view planner .book) page (found .count) (found .next) g) (c .guesses .ensures) in
+    ∙ ap (λ g. listedText (view planner .book) page (found .count) (found .next) g) (c .guesses .ensures .count) in
     record {
       text = pageText planner page (Ok found);
       so = record { page = page; result = Ok found; full = full; call = c .in-Ok .ensures tt; says = refl };

@@ -9,16 +9,7 @@ use Rattle.std.proofs.shelf.Lists.{take-more-set, length-set, getD-set-same, dr
 use Rattle.std.specs.Options.{Cases}
 use Rattle.std.specs.declared.option.Option.{Option}
 use Rattle.std.specs.declared.option.Option.the-variants.{Some, None}
-use Rattle.planner.specs.Tries.{Reads, Page}
-
--- A list on its way: it filled `count` places and is about to try the guess `next`.
-pub record Reading (F : ℕ → ℕ → Type 0) (from : ℕ) (before after : List ℕ) (count next : ℕ) : Type 0 where
-  pub reads : Reads F from (take count after) next
-  pub fits : count ≤ length before
-  pub same-length : length after ≡ length before
-  pub stays : drop count after ≡ drop count before
-  pub no-place : length before ≡ 0 → next ≡ from
-  pub full : 0 < count → count ≡ length before → F (next - 1) (getD after (count - 1) 0)
+use Rattle.planner.specs.Tries.{Reads, Reading}
 
 add-sub-one : (n : ℕ) → n + 1 - 1 ≡ n
 add-sub-one n = omega arith
@@ -36,10 +27,11 @@ module _ (F : ℕ → ℕ → Type 0) where
       (omega (arith, r .0), λ g s a b f. elim (ℕ-discrete g next) [ yes e ↦ none s (subst (λ k. F k s) e f) | no other ↦ r .1 g s a (omega arith) f ])
   reads-missed from next (t ∷ rest) r none = (r .0, r .1, r .2, r .3, reads-missed (r .0 + 1) next rest (r .4) none)
 
-  module _ (from : ℕ) (before : List ℕ) where
-    pub reading-start : Reading F from before before 0 from
-    reading-start = record {
+  module _ (from total : ℕ) (before : List ℕ) where
+    pub reading-start : from ≤ total → Reading F from total before before 0 from
+    reading-start upto = record {
       reads = reads-start from;
+      upto = upto;
       fits = omega arith;
       same-length = refl;
       stays = refl;
@@ -47,11 +39,12 @@ module _ (F : ℕ → ℕ → Type 0) where
       full = λ a _. absurd (omega arith);
     }
 
-    module _ (after : List ℕ) (count next : ℕ) (at : Reading F from before after count next) (room : count < length after) where
+    module _ (after : List ℕ) (count next : ℕ) (at : Reading F from total before after count next) (room : count < length after) (left : next < total) where
       -- the guess found s, which goes to the next place
-      pub reading-found : (s : ℕ) → F next s → Reading F from before (set after count s) (count + 1) (next + 1)
+      pub reading-found : (s : ℕ) → F next s → Reading F from total before (set after count s) (count + 1) (next + 1)
       reading-found s f = record {
         reads = subst (λ sets. Reads F from sets (next + 1)) (sym (take-more-set after count s room)) (reads-found from next s (take count after) (at .reads) f);
+        upto = omega arith;
         fits = omega (arith, at .same-length);
         same-length = length-set after count s ∙ at .same-length;
         stays = drop-set-lt (count + 1) after count s (omega arith) ∙ (sym (drop-drop 1 count after) ∙ ap (drop 1) (at .stays) ∙ drop-drop 1 count before);
@@ -60,9 +53,10 @@ module _ (F : ℕ → ℕ → Type 0) where
       }
 
       -- the guess found nothing
-      pub reading-missed : ((s : ℕ) → F next s → ⊥) → Reading F from before after count (next + 1)
+      pub reading-missed : ((s : ℕ) → F next s → ⊥) → Reading F from total before after count (next + 1)
       reading-missed none = record {
         reads = reads-missed from next (take count after) (at .reads) none;
+        upto = omega arith;
         fits = at .fits;
         same-length = at .same-length;
         stays = at .stays;
@@ -71,19 +65,6 @@ module _ (F : ℕ → ℕ → Type 0) where
       }
 
       -- what a try found, or that it found nothing, was put to the page
-      pub reading-put : (found : Option ℕ) → Cases found ((s : ℕ) → F next s → ⊥) (F next) → (page : List ℕ) (filled : ℕ) → Cases found ((page ≡ after) × (filled ≡ count)) (λ s. (page ≡ set after count s) × (filled ≡ count + 1)) → Reading F from before page filled (next + 1)
-      reading-put None none page filled put = subst₂ (λ p c. Reading F from before p c (next + 1)) (sym (put .0)) (sym (put .1)) (reading-missed none)
-      reading-put (Some s) found page filled put = subst₂ (λ p c. Reading F from before p c (next + 1)) (sym (put .0)) (sym (put .1)) (reading-found s found)
-
-  -- the page is full, or no guess is left
-  pub page-done : (from total : ℕ) (before after : List ℕ) (count next : ℕ) → Reading F from before after count next → next ≤ total → (count < length before → next ≡ total) → Page F from total before after count next
-  page-done from total before after count next at upto goes-on = record {
-    reads = at .reads;
-    upto = upto;
-    fits = at .fits;
-    same-length = at .same-length;
-    stays = at .stays;
-    goes-on = goes-on;
-    no-place = at .no-place;
-    full = at .full;
-  }
+      pub reading-put : (found : Option ℕ) → Cases found ((s : ℕ) → F next s → ⊥) (F next) → (page : List ℕ) (filled : ℕ) → Cases found ((page ≡ after) × (filled ≡ count)) (λ s. (page ≡ set after count s) × (filled ≡ count + 1)) → Reading F from total before page filled (next + 1)
+      reading-put None none page filled put = subst₂ (λ p c. Reading F from total before p c (next + 1)) (sym (put .0)) (sym (put .1)) (reading-missed none)
+      reading-put (Some s) found page filled put = subst₂ (λ p c. Reading F from total before p c (next + 1)) (sym (put .0)) (sym (put .1)) (reading-found s found)
