@@ -8,8 +8,15 @@ use Rattle.std.specs.declared.option.Option.{Option}
 use Rattle.sets.specs.Sets.{Smallest}
 use Rattle.sets.specs.Picks.{Picks}
 use Rattle.facts.specs.Meaning.{Meaning}
+use Rattle.facts.specs.Closure.{Passed}
 use Rattle.book.specs.declared.rows.Rule.{Rule}
-use Rattle.planner.specs.Menus.{Closed}
+use Rattle.planner.specs.Menus.{Obeys, Closed}
+
+-- One turn of a try took s to r: a round over the rules that e leaves open, and then the facts.
+pub record Turned (m : Meaning) (rules : List (Option Rule)) (e s r : ℕ) : Type 0 where
+  pub round : ℕ
+  pub passed : Passed (Obeys rules e) s round
+  pub followed : r ≡ m .follow round
 
 -- A try of guess g finds s, where `unless` are the lines to guess about: s is the smallest set closed under the rules that the guess leaves
 -- open, and its part in those lines is the guess.

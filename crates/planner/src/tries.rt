@@ -3,7 +3,7 @@ ghost use Prim.Native.Nat.{ℕ};
 ghost use Rattle.book.specs.Rows.{GivesLines};
 ghost use Rattle.facts.specs.Closure.{Passed};
 ghost use Rattle.planner.specs.Menus.{Open, Obeys, Closed};
-ghost use Rattle.planner.specs.Tries.{Found};
+ghost use Rattle.planner.specs.Tries.{Turned, Found};
 ghost use Rattle.sets.specs.Sets.{Within, Smallest};
 ghost use Rattle.std.specs.Options.{Cases};
 ghost use Rattle.std.specs.Orderings.{Decides};
@@ -32,14 +32,22 @@ fn round(rules: &[Option<Rule>], guess: u64, mut set: u64) -> u64
     set
 }
 
-// Rounds over the rules, each followed by the facts, until one adds nothing.
+// One round over the rules, and what follows by the facts.
+fn turn<F: Facts>(facts: &F, rules: &[Option<Rule>], guess: u64, set: u64) -> u64
+    requires { ⌜ GivesLines (now rules) ⌝ }
+    ensures { λ r. ⌜ Turned (F·Facts .meaning (now (facts .entry))) (now (rules .entry)) guess set r ⌝ }
+{
+    facts.follow(round(rules, guess, set))
+}
+
+// Turns, until one adds nothing.
 pub fn close<F: Facts>(facts: &F, rules: &[Option<Rule>], guess: u64) -> u64
     requires { ⌜ GivesLines (now rules) ⌝ }
     ensures { λ r. ⌜ Smallest (Closed (F·Facts .meaning (now (facts .entry))) (now (rules .entry)) guess) r ⌝ }
 {
     let mut set = facts.follow(0);
     loop {
-        let next = facts.follow(round(rules, guess, set));
+        let next = turn(facts, rules, guess, set);
         if next == set {
             return set;
         }
