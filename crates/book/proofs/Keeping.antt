@@ -78,6 +78,7 @@ module _ {X : Type 0} where
       where
         is-next : mapped number (Some x) ≡ Some next
         is-next = ap Some new
+
         by : ((at (set rows k (Some x)) i ≡ Some x) × (i ≡ k)) ⊎ (at (set rows k (Some x)) i ≡ at rows i) → ((at (set rows k (Some x)) j ≡ Some x) × (j ≡ k)) ⊎ (at (set rows k (Some x)) j ≡ at rows j) → i ≡ j
         by (inl a) (inl b) = a .1 ∙ sym (b .1)
         by (inl a) (inr b) = absurd (fresh rows next j given (sym (ap (mapped number) b) ∙ sym (h .1) ∙ ap (mapped number) (a .0) ∙ is-next))
@@ -89,9 +90,11 @@ module _ {X : Type 0} where
       where
         gone : at (set rows k None) i ≡ None → ⊥
         gone e = not-full (set rows k None) i e (h .0)
+
         none-number : (o : Option X) → isSome o ≡ true → mapped number o ≡ None → ⊥
         none-number None f e = not-full {X = X} [] 0 refl f
         none-number (Some y) f e = no-some (sym e)
+
         by : ((at (set rows k None) i ≡ None) × (i ≡ k)) ⊎ (at (set rows k None) i ≡ at rows i) → ((at (set rows k None) j ≡ None) × (j ≡ k)) ⊎ (at (set rows k None) j ≡ at rows j) → i ≡ j
         by (inl a) b = absurd (gone (a .0))
         by (inr a) (inl b) = absurd (none-number (at (set rows k None) i) (h .0) (h .1 ∙ ap (mapped number) (b .0)))

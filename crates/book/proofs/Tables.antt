@@ -41,12 +41,12 @@ module _ {X : Type 0} where
   -- what stands at a place after a write to one: what was written, or what stood there
   pub at-set : (rows : List (Option X)) (i j : ℕ) (v : Option X) → (at (set rows i v) j ≡ v × (j ≡ i)) ⊎ (at (set rows i v) j ≡ at rows j)
   at-set rows i j v = elim (ℕ-discrete j i) [
-      no other ↦ inr (getD-set-other rows i j v None other)
-      | yes same ↦ elim (decLt i (length rows)) [
-        yes l ↦ inl (ap (λ k. at (set rows i v) k) same ∙ getD-set-same rows i v None l, same)
-        | no l ↦ inr (ap (λ xs. at xs j) (set-past rows i v (omega arith)))
-      ]
+    | no other ↦ inr (getD-set-other rows i j v None other)
+    | yes same ↦ elim (decLt i (length rows)) [
+      | yes l ↦ inl (ap (λ k. at (set rows i v) k) same ∙ getD-set-same rows i v None l, same)
+      | no l ↦ inr (ap (λ xs. at xs j) (set-past rows i v (omega arith)))
     ]
+  ]
 
   -- an empty table has nothing anywhere
   pub empty-at : (n j : ℕ) → at {X = X} (replicate n None) j ≡ None
@@ -90,15 +90,17 @@ FullBelow rows k s = (n : ℕ) → (Has s n → (n < k) × Full rows n) × ((n <
 module _ {X : Type 0} (rows : List (Option X)) (k s : ℕ) (below : FullBelow rows k s) where
   -- the next place is filled, and t is the set with it
   pub full-more : (t : ℕ) → Full rows k → Within s t → Has t k → ((n : ℕ) → Has t n → Has s n ⊎ (n ≡ k)) → FullBelow rows (k + 1) t
-  full-more t full up here only n =
-      (λ h. ⊎-elim (λ old. let o = below n .0 old in (omega arith, o .1)) (λ e. (omega arith, subst (Full rows) (sym e) full)) (only n h),
-       λ h. elim (ℕ-discrete n k) [ yes e ↦ subst (Has t) (sym e) here | no other ↦ up n (below n .1 (omega (arith, h .0), h .1)) ])
+  full-more t full up here only n = (
+    λ h. ⊎-elim (λ old. let o = below n .0 old in (omega arith, o .1)) (λ e. (omega arith, subst (Full rows) (sym e) full)) (only n h),
+    λ h. elim (ℕ-discrete n k) [ yes e ↦ subst (Has t) (sym e) here | no other ↦ up n (below n .1 (omega (arith, h .0), h .1)) ],
+  )
 
   -- the next place is empty
   pub full-same : at rows k ≡ None → FullBelow rows (k + 1) s
-  full-same none n =
-      (λ h. let o = below n .0 h in (omega arith, o .1),
-       λ h. elim (ℕ-discrete n k) [ yes e ↦ absurd (not-full rows n (ap (at rows) e ∙ none) (h .1)) | no other ↦ below n .1 (omega (arith, h .0), h .1) ])
+  full-same none n = (
+    λ h. let o = below n .0 h in (omega arith, o .1),
+    λ h. elim (ℕ-discrete n k) [ yes e ↦ absurd (not-full rows n (ap (at rows) e ∙ none) (h .1)) | no other ↦ below n .1 (omega (arith, h .0), h .1) ],
+  )
 
 -- ---- the lines of all rows together
 
@@ -133,9 +135,9 @@ module _ {X : Type 0} (lines : X → ℕ) where
   union-set rows i x n h =
       let r = union-has (set rows i (Some x)) n h in
       ⊎-elim
-        (λ new. or-has-right (union lines rows) (lines x) n (let same : r .1 ≡ x = some-same (sym (r .2) ∙ new .0) in subst (λ z. Has (lines z) n) same (r .3)))
-        (λ old. or-has-left (union lines rows) (lines x) n (union-at rows (r .0) n (r .1) (sym old ∙ r .2) (r .3)))
-        (at-set rows i (r .0) (Some x))
+      (λ new. or-has-right (union lines rows) (lines x) n (let same : r .1 ≡ x = some-same (sym (r .2) ∙ new .0) in subst (λ z. Has (lines z) n) same (r .3)))
+      (λ old. or-has-left (union lines rows) (lines x) n (union-at rows (r .0) n (r .1) (sym old ∙ r .2) (r .3)))
+      (at-set rows i (r .0) (Some x))
 
   pub union-unset : (rows : List (Option X)) (i : ℕ) → Within (union lines (set rows i None)) (union lines rows)
   union-unset rows i n h =

@@ -30,6 +30,6 @@ pub copied-more : (bytes buffer : List ℕ) (i : ℕ) → i < length bytes → i
 copied-more bytes buffer i lt room =
     let front : length (take i bytes) ≡ i = length-take-le i bytes (omega arith) in
     ap (λ rest. set (take i bytes ++ rest) i (getD bytes i 0)) (drop-more buffer i 0 room)
-      ∙ set-at (take i bytes) (getD buffer i 0) (drop (i + 1) buffer) (getD bytes i 0) i front
-      ∙ sym (append-assoc (take i bytes) (getD bytes i 0 ∷ []) (drop (i + 1) buffer))
-      ∙ ap (λ f. f ++ drop (i + 1) buffer) (sym (take-more bytes i 0 lt))
+    ∙ set-at (take i bytes) (getD buffer i 0) (drop (i + 1) buffer) (getD bytes i 0) i front
+    ∙ sym (append-assoc (take i bytes) (getD bytes i 0 ∷ []) (drop (i + 1) buffer))
+    ∙ ap (λ f. f ++ drop (i + 1) buffer) (sym (take-more bytes i 0 lt))

@@ -47,15 +47,15 @@ write-grounds c line words =
 abbrev pub Write : Contents → ℕ → List ℕ → Result ℕ Refusal → Contents → Type 0
 Write c line words answer after =
     Answered (write-grounds c line words)
-      (λ number. (number ≡ c .next) × (after ≡ record {
-        lines = set (c .lines) line (Some (record { number = c .next; words = words }));
-        rules = c .rules;
-        holds = c .holds;
-        next = c .next + 1;
-        next-hold = c .next-hold;
-      }))
-      (after ≡ c)
-      answer
+    (λ number. (number ≡ c .next) × (after ≡ record {
+      lines = set (c .lines) line (Some (record { number = c .next; words = words }));
+      rules = c .rules;
+      holds = c .holds;
+      next = c .next + 1;
+      next-hold = c .next-hold;
+    }))
+    (after ≡ c)
+    answer
 
 -- `named` are the lines that the facts name
 abbrev pub strike-grounds : ℕ → Contents → ℕ → List Ground
@@ -70,15 +70,15 @@ strike-grounds named c line =
 abbrev pub Strike : ℕ → Contents → ℕ → Result (Unit {0}) Refusal → Contents → Type 0
 Strike named c line answer after =
     Answered (strike-grounds named c line)
-      (λ _. after ≡ record {
-        lines = set (c .lines) line None;
-        rules = c .rules;
-        holds = c .holds;
-        next = c .next;
-        next-hold = c .next-hold;
-      })
-      (after ≡ c)
-      answer
+    (λ _. after ≡ record {
+      lines = set (c .lines) line None;
+      rules = c .rules;
+      holds = c .holds;
+      next = c .next;
+      next-hold = c .next-hold;
+    })
+    (after ≡ c)
+    answer
 
 -- the rule names an empty line
 abbrev pub NamesVacant : Contents → Rule → Type 0
@@ -96,15 +96,15 @@ rule-grounds c place rule =
 abbrev pub PutRule : Contents → ℕ → Rule → Result (Unit {0}) Refusal → Contents → Type 0
 PutRule c place rule answer after =
     Answered (rule-grounds c place rule)
-      (λ _. after ≡ record {
-        lines = c .lines;
-        rules = set (c .rules) place (Some rule);
-        holds = c .holds;
-        next = c .next;
-        next-hold = c .next-hold;
-      })
-      (after ≡ c)
-      answer
+    (λ _. after ≡ record {
+      lines = c .lines;
+      rules = set (c .rules) place (Some rule);
+      holds = c .holds;
+      next = c .next;
+      next-hold = c .next-hold;
+    })
+    (after ≡ c)
+    answer
 
 -- the words of the line do not fit a buffer of this length
 abbrev pub TooShort : Contents → ℕ → ℕ → Type 0
@@ -146,12 +146,12 @@ unrule-grounds c place =
 abbrev pub Unrule : Contents → ℕ → Result (Unit {0}) Refusal → Contents → Type 0
 Unrule c place answer after =
     Answered (unrule-grounds c place)
-      (λ _. after ≡ record {
-        lines = c .lines;
-        rules = set (c .rules) place None;
-        holds = c .holds;
-        next = c .next;
-        next-hold = c .next-hold;
-      })
-      (after ≡ c)
-      answer
+    (λ _. after ≡ record {
+      lines = c .lines;
+      rules = set (c .rules) place None;
+      holds = c .holds;
+      next = c .next;
+      next-hold = c .next-hold;
+    })
+    (after ≡ c)
+    answer

@@ -4,6 +4,7 @@ ghost use Rattle.book.specs.Rows.{lines-named};
 ghost use lib.ListN.{length};
 ghost use mathlib.Core.Path.{_≡_};
 use crate::rows::Tables;
+
 mod edit;
 mod read;
 mod search;

@@ -84,6 +84,7 @@ module _ (m : Meaning) (lawful : Lawful m) (C : ℕ → Type 0) (start : ℕ) wh
       where
         still : m .follow a ≡ s
         still = sym followed ∙ e
+
         same : a ≡ s
         same = same-lines a s (λ n h. subst (λ x. Has x n) still (lawful .keeps a (passed .lines) n h)) (passed .grows)
 

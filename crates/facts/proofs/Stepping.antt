@@ -52,7 +52,7 @@ pass-passed [] s is l = passed-none (λ c. Unit {0}) s l tt
 pass-passed (x ∷ xs) s is l =
     let first = one-pass x s (is .0) l in
     passed-then (λ c. Obeys c x) (λ c. All (Obeys c) xs) (λ c. Obeys c x × All (Obeys c) xs) s _ _ (λ c e. e) (λ c o os. (o, os)) first
-      (pass-passed xs _ (is .1) (first .lines))
+    (pass-passed xs _ (is .1) (first .lines))
 
 -- the set obeys each of the steps
 abbrev pub ObeysAll : List Step → ℕ → Type 0
@@ -66,8 +66,10 @@ module _ (m : Meaning) (lawful : Lawful m) (steps : List Step) (are : All IsStep
     where
       after : ℕ
       after = m .follow (pass steps s)
+
       passed : Passed (ObeysAll steps) s (pass steps s)
       passed = pass-passed steps s are (r .lines)
+
       by : (b : Bool) → eqb after s ≡ b → (2 ^ 64 - after ≤ fuel → Smallest (Stable m (ObeysAll steps) start) (settle fuel (λ t. m .follow (pass steps t)) after)) → Smallest (Stable m (ObeysAll steps) start) (elim b [ true ↦ s | false ↦ settle fuel (λ t. m .follow (pass steps t)) after ])
       by true e go = reached-done m lawful (ObeysAll steps) start s (pass steps s) after r passed refl (decides-eqb after s .0 e)
       by false e go =
@@ -97,9 +99,10 @@ lines-of-lines (x ∷ xs) are =
 obeys-named : (steps : List Step) (s : ℕ) → Within (lines-of steps) s → All (Obeys s) steps
 obeys-named [] s w = tt
 obeys-named (x ∷ xs) s w =
-    let own = lines-in x in
-    (λ _. w (x .gives) (or-has-left own (lines-of xs) (x .gives) (or-has-right (x .needs) (2 ^ x .gives) (x .gives) (single-has (x .gives)))),
-     obeys-named xs s (λ n h. w n (or-has-right own (lines-of xs) n h)))
+    let own = lines-in x in (
+      λ _. w (x .gives) (or-has-left own (lines-of xs) (x .gives) (or-has-right (x .needs) (2 ^ x .gives) (x .gives) (single-has (x .gives)))),
+      obeys-named xs s (λ n h. w n (or-has-right own (lines-of xs) n h)),
+    )
 
 module _ (m : Meaning) (lawful : Lawful m) (steps : List Step) (are : All IsStep steps) where
   follows : (s : ℕ) → IsLines s → Follows m steps s (stepped steps m .follow s)
@@ -117,8 +120,10 @@ module _ (m : Meaning) (lawful : Lawful m) (steps : List Step) (are : All IsStep
     where
       named : ℕ
       named = bitOr (m .names) (lines-of steps)
+
       all : ℕ
       all = bitOr s named
+
       lines : IsLines all
       lines = or-lt 64 s named l (or-lt 64 (m .names) (lines-of steps) (lawful .names-lines) (lines-of-lines steps are))
 
@@ -136,14 +141,17 @@ module _ (m : Meaning) (lawful : Lawful m) (steps : List Step) (are : All IsStep
     where
       named-lines : IsLines (bitOr (m .names) (lines-of steps))
       named-lines = or-lt 64 (m .names) (lines-of steps) (lawful .names-lines) (lines-of-lines steps are)
+
       after : ℕ → ℕ
       after s = stepped steps m .follow s
+
       from : (s t : ℕ) → IsLines t → Within s t → Closed m steps s (after t)
       from s t k w = record {
         starts = λ n h. follows t k .has .starts n (w n h);
         left = follows t k .has .left;
         obeys = follows t k .has .obeys;
       }
+
       again : (s : ℕ) → IsLines s → Closed m steps (after s) (after s)
       again s l = record { starts = λ n h. h; left = follows s l .has .left; obeys = follows s l .has .obeys }
 
@@ -153,15 +161,15 @@ pass-more steps i s a b lt p q =
     let x = getD steps i no-step in
     let front : take (i + 1) steps ≡ take i steps ++ x ∷ [] = take-more steps i no-step lt in
     subst (λ ys. Passed (ObeysAll ys) s b) (sym front)
-      (passed-then (ObeysAll (take i steps)) (λ c. Obeys c x) (ObeysAll (take i steps ++ x ∷ [])) s a b
-        (λ c all. all-pushed (Obeys c) (take i steps) x all) (λ c all here. all-push (Obeys c) (take i steps) x all here) p q)
+    (passed-then (ObeysAll (take i steps)) (λ c. Obeys c x) (ObeysAll (take i steps ++ x ∷ [])) s a b
+    (λ c all. all-pushed (Obeys c) (take i steps) x all) (λ c all here. all-push (Obeys c) (take i steps) x all here) p q)
 
 -- one step more was named
 pub named-more : (steps : List Step) (i all : ℕ) → i < length steps → bitOr all (lines-of (drop i steps)) ≡ bitOr (bitOr all (lines-in (getD steps i no-step))) (lines-of (drop (i + 1) steps))
 named-more steps i all lt =
     let x = getD steps i no-step in
     ap (λ ys. bitOr all (lines-of ys)) (drop-more steps i no-step lt)
-      ∙ sym (or-group all (lines-in x) (lines-of (drop (i + 1) steps)))
+    ∙ sym (or-group all (lines-in x) (lines-of (drop (i + 1) steps)))
 
 -- what was told to facts of steps are steps
 pub told-are : {F : Type 0} (f : Steps F) → All IsStep (told f)

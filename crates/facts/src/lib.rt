@@ -1,6 +1,7 @@
 // Facts: which lines follow from which, and which lines they speak of.
 ghost use Rattle.facts.specs.Meaning.{Meaning, Lawful, bare};
 ghost use mathlib.Core.Path.{_≡_};
+
 pub mod step;
 pub mod steps;
 

@@ -5,8 +5,10 @@ ghost use Rattle.sets.specs.Sets.{IsLines};
 ghost use lib.ListN.{length, getD};
 ghost use mathlib.Core.Path.{_≡_};
 use crate::step::Step;
+
 mod asked;
 mod tell;
+
 pub use crate::steps::asked::StepsFacts;
 
 pub const MOST_STEPS: usize = 32;

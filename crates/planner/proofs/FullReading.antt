@@ -33,13 +33,13 @@ module _ (before : List ℕ) (count : ℕ) (found : List ℕ) where
     same-length = length-set after r (getD found k 0) ∙ at .same-length;
     old = λ i lt. let other : i ≢ r = omega (arith, at .filled) in getD-set-other after r i (getD found k 0) 0 other ∙ at .old i lt;
     new = λ j lt. elim (ℕ-discrete j k) [
-        yes e ↦ let here : count + j ≡ r = omega (arith, at .filled, e) in ap (λ i. getD (set after r (getD found k 0)) i 0) here ∙ getD-set-same after r (getD found k 0) 0 room ∙ ap (λ i. getD found i 0) (sym e)
-        | no other ↦ let apart : count + j ≢ r = omega (arith, at .filled) in getD-set-other after r (count + j) (getD found k 0) 0 apart ∙ at .new j (omega arith)
-      ];
+      | yes e ↦ let here : count + j ≡ r = omega (arith, at .filled, e) in ap (λ i. getD (set after r (getD found k 0)) i 0) here ∙ getD-set-same after r (getD found k 0) 0 room ∙ ap (λ i. getD found i 0) (sym e)
+      | no other ↦ let apart : count + j ≢ r = omega (arith, at .filled) in getD-set-other after r (count + j) (getD found k 0) 0 apart ∙ at .new j (omega arith)
+    ];
     stays =
         let next : count + k + 1 ≡ count + (k + 1) = omega arith in
         drop-set-lt (count + (k + 1)) after r (getD found k 0) (omega (arith, at .filled))
-          ∙ subst (λ n. drop n after ≡ drop n before) next (sym (drop-drop 1 (count + k) after) ∙ ap (drop 1) (at .stays) ∙ drop-drop 1 (count + k) before);
+        ∙ subst (λ n. drop n after ≡ drop n before) next (sym (drop-drop 1 (count + k) after) ∙ ap (drop 1) (at .stays) ∙ drop-drop 1 (count + k) before);
   }
 
 -- ---- the menus whose guess lies below `from`
@@ -76,9 +76,9 @@ module _ (m : Meaning) (w : World) (lines : IsLines (guessed-of w)) (before : Li
     read-more = record {
       each = λ i lt. each i (place i lt);
       every = λ s g menu guess lt. elim (decLt g from) [
-          yes old ↦ let k = at .every s g menu guess old in (k .0, omega (arith, k .1, added .filled), added .old (k .0) (k .1) ∙ k .2)
-          | no new ↦ let k = listed .every s g menu guess (omega arith) lt in (count + k .0, omega (arith, k .1, added .filled), here (k .0) (k .1) ∙ k .2)
-        ];
+        | yes old ↦ let k = at .every s g menu guess old in (k .0, omega (arith, k .1, added .filled), added .old (k .0) (k .1) ∙ k .2)
+        | no new ↦ let k = listed .every s g menu guess (omega arith) lt in (count + k .0, omega (arith, k .1, added .filled), here (k .0) (k .1) ∙ k .2)
+      ];
       ordered = λ i j lt lj. ordered i j lt (place i (omega arith)) (place j lj);
       few = omega (arith, added .filled, at .few, listed .few, listed .rises);
       same-length = added .same-length ∙ at .same-length;
@@ -87,6 +87,7 @@ module _ (m : Meaning) (w : World) (lines : IsLines (guessed-of w)) (before : Li
       where
         rest : drop r more ≡ drop r before
         rest = subst (λ n. drop n more ≡ drop n before) (sym (added .filled)) (added .stays ∙ sym (drop-drop found count after) ∙ ap (drop found) (at .stays) ∙ drop-drop found count before)
+
         each : (i : ℕ) → (i < count) ⊎ ((j : ℕ) × (j < found) × (i ≡ count + j)) → Offers m w (getD more i 0) × ((g : ℕ) × GuessOf (guessed-of w) (getD more i 0) g × (g < next))
         each i (inl old) =
             let k = at .each i old in
@@ -94,8 +95,10 @@ module _ (m : Meaning) (w : World) (lines : IsLines (guessed-of w)) (before : Li
         each i (inr new) =
             let k = listed .each (new .0) (new .1) in
             subst (λ s. Offers m w s × ((g : ℕ) × GuessOf (guessed-of w) s g × (g < next))) (sym (ap (λ n. getD more n 0) (new .2) ∙ here (new .0) (new .1))) (k .0, (k .1 .0, k .1 .1, k .1 .3))
+
         both : (i j s t : ℕ) → getD more i 0 ≡ s → getD more j 0 ≡ t → Before (guessed-of w) s t → Before (guessed-of w) (getD more i 0) (getD more j 0)
         both i j s t a b h = subst₂ (Before (guessed-of w)) (sym a) (sym b) h
+
         ordered : (i j : ℕ) → i < j → (i < count) ⊎ ((k : ℕ) × (k < found) × (i ≡ count + k)) → (j < count) ⊎ ((k : ℕ) × (k < found) × (j ≡ count + k)) → Before (guessed-of w) (getD more i 0) (getD more j 0)
         ordered i j lt (inl a) (inl b) = both i j _ _ (added .old i a) (added .old j b) (at .ordered i j lt b)
         ordered i j lt (inl a) (inr b) =

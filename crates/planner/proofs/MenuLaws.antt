@@ -75,8 +75,10 @@ module _ (m : Meaning) (rules : List (Option Rule)) where
     where
       all : ℕ
       all = bitOr (m .names) given
+
       all-lines : IsLines all
       all-lines = or-lt 64 (m .names) given (lawful .names-lines) lines
+
       left : m .follow all ≡ all
       left = same-lines (m .follow all) all
           (λ n h. ⊎-elim (λ k. k) (λ k. or-has-left (m .names) given n k) (or-has all (m .names) n (lawful .named all all-lines n h)))
@@ -107,9 +109,12 @@ before-from-guess u s t g h l lt a b =
 pub menu-laws : (m : Meaning) → Lawful m → MenuLaws m
 menu-laws m lawful = record {
   one-guess = λ rules u l covers e menu.
-      let g = guess-exists u e l in
-      (g .0, g .1 .below, found-from-menu m rules u covers (g .0) e menu (g .1 .picks),
-       λ h below f. guess-only u e h (g .0) l (record { below = below; picks = picks-from-found m rules u h e f }) (g .1));
+      let g = guess-exists u e l in (
+        g .0,
+        g .1 .below,
+        found-from-menu m rules u covers (g .0) e menu (g .1 .picks),
+        λ h below f. guess-only u e h (g .0) l (record { below = below; picks = picks-from-found m rules u h e f }) (g .1),
+      );
   found-menu = λ rules u covers g s f. menu-from-found m rules u covers g s f;
   apart = menus-apart m;
   inside = λ rules given l gives e menu. menu-within m rules lawful given l gives e menu;

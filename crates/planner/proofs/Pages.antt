@@ -41,12 +41,12 @@ module _ (F : ℕ → ℕ → Type 0) where
     where
       by : (r .0 + 1 ≤ g → (i : ℕ) × (i < length rest) × (getD rest i 0 ≡ s)) → (i : ℕ) × (i < suc (length rest)) × (getD (t ∷ rest) i 0 ≡ s)
       by later = elim (decLt g (r .0)) [
-          yes below ↦ absurd (r .3 g s lo below f)
-          | no above ↦ elim (ℕ-discrete g (r .0)) [
-            yes e ↦ (zero, omega arith, same (r .0) t s (r .2) (subst (λ k. F k s) e f))
-            | no other ↦ let k = later (omega arith) in (suc (k .0), omega (arith, k .1), k .2)
-          ]
+        | yes below ↦ absurd (r .3 g s lo below f)
+        | no above ↦ elim (ℕ-discrete g (r .0)) [
+          | yes e ↦ (zero, omega arith, same (r .0) t s (r .2) (subst (λ k. F k s) e f))
+          | no other ↦ let k = later (omega arith) in (suc (k .0), omega (arith, k .1), k .2)
         ]
+      ]
 
 module _ (m : Meaning) (w : World) (lines : IsLines (guessed-of w)) where
   guess-from : (g s : ℕ) → g < guesses w → Found m (rules-of w) (guessed-of w) g s → GuessOf (guessed-of w) s g
@@ -68,8 +68,8 @@ module _ (m : Meaning) (w : World) (lines : IsLines (guessed-of w)) where
     ordered = λ i j lt lj.
         let k = reads-order F from next (take count after) (at .reads) i j lt (omega (arith, long)) in
         before-from-guess (guessed-of w) (getD after i 0) (getD after j 0) (k .0) (k .1) lines (k .4)
-          (guess-from (k .0) _ (omega (arith, k .4, k .5, at .upto)) (subst (F (k .0)) (place i (omega arith)) (k .2)))
-          (guess-from (k .1) _ (omega (arith, k .5, at .upto)) (subst (F (k .1)) (place j lj) (k .3)));
+        (guess-from (k .0) _ (omega (arith, k .4, k .5, at .upto)) (subst (F (k .0)) (place i (omega arith)) (k .2)))
+        (guess-from (k .1) _ (omega (arith, k .5, at .upto)) (subst (F (k .1)) (place j lj) (k .3)));
     few = omega (arith, few, long);
     fits = at .fits;
     same-length = at .same-length;
@@ -81,13 +81,18 @@ module _ (m : Meaning) (w : World) (lines : IsLines (guessed-of w)) where
     where
       F : ℕ → ℕ → Type 0
       F = Found m (rules-of w) (guessed-of w)
+
       at : Reading (Found m (rules-of w) (guessed-of w)) from (guesses w) before after count next
       at = stopped .reading
+
       covers : Covers (guessed-of w) (rules-of w)
       covers = unless-covers (rules-of w)
+
       long : length (take count after) ≡ count
       long = length-take-le count after (omega (arith, at .fits, at .same-length))
+
       few : from + length (take count after) ≤ next
       few = reads-few (Found m (rules-of w) (guessed-of w)) from next (take count after) (at .reads)
+
       place : (i : ℕ) → i < count → getD (take count after) i 0 ≡ getD after i 0
       place i lt = getD-take count after i 0 lt

@@ -33,6 +33,7 @@ open-decides r e = decides-like _ apart meets (decides-eqb (bitAnd (r .unless) e
   where
     apart : bitAnd (r .unless) e ≡ 0 → Open r e
     apart z n h k = none-has n (subst (λ s. Has s n) z (and-has (r .unless) e n h k))
+
     meets : Open r e → bitAnd (r .unless) e ≡ 0
     meets free = same-lines (bitAnd (r .unless) e) 0 (λ n h. absurd (free n (and-has-left (r .unless) e n h) (and-has-right (r .unless) e n h))) (λ n h. absurd (none-has n h))
 
@@ -51,17 +52,17 @@ module _ (rules : List (Option Rule)) (e : ℕ) where
   round-then : (i s a b : ℕ) → Passed (ObeysBelow i) s a → Passed (ObeysAt i) a b → Passed (ObeysBelow (i + 1)) s b
   round-then i s a b p q =
       passed-then (ObeysBelow i) (ObeysAt i) (ObeysBelow (i + 1)) s a b
-        (λ c all. (λ k lt. all k (omega arith), all i (omega arith)))
-        (λ c below here k lt. elim (ℕ-discrete k i) [ yes e ↦ subst (λ j. ObeysAt j c) (sym e) here | no other ↦ below k (omega arith) ])
-        p q
+      (λ c all. (λ k lt. all k (omega arith), all i (omega arith)))
+      (λ c below here k lt. elim (ℕ-discrete k i) [ yes e ↦ subst (λ j. ObeysAt j c) (sym e) here | no other ↦ below k (omega arith) ])
+      p q
 
   -- the place holds a rule that fires: it adds its line
   pub round-fires : (i s a b : ℕ) (r : Rule) → Passed (ObeysBelow i) s a → at rules i ≡ Some r → Open r e × Within (r .needs) a → IsLines b → Within a b → Has b (r .gives) → ((n : ℕ) → Has b n → Has a n ⊎ (n ≡ r .gives)) → Passed (ObeysBelow (i + 1)) s b
   round-fires i s a b r p here fires l up new only =
       round-then i s a b p
-        (passed-line (ObeysAt i) a b (r .gives) l up only
-          (λ c obeys w. obeys r here (fires .0) (λ n h. w n (fires .1 n h)))
-          (λ k at-k free needs. let same : r ≡ k = some-same (sym here ∙ at-k) in subst (λ x. Has b (x .gives)) same new))
+      (passed-line (ObeysAt i) a b (r .gives) l up only
+      (λ c obeys w. obeys r here (fires .0) (λ n h. w n (fires .1 n h)))
+      (λ k at-k free needs. let same : r ≡ k = some-same (sym here ∙ at-k) in subst (λ x. Has b (x .gives)) same new))
 
   -- the place holds a rule that does not fire, or none
   pub round-rests : (i s a : ℕ) → Passed (ObeysBelow i) s a → ((r : Rule) → at rules i ≡ Some r → Open r e × Within (r .needs) a → ⊥) → Passed (ObeysBelow (i + 1)) s a
@@ -80,9 +81,9 @@ module _ (rules : List (Option Rule)) (e : ℕ) where
   pub closed-from : (m : Meaning) (s : ℕ) → Smallest (Stable m (Obeys rules e) 0) s → Smallest (Closed m rules e) s
   closed-from m s least =
       smallest-like (Stable m (Obeys rules e) 0) (Closed m rules e) s
-        (λ t st. record { left = st .left; obeys = st .obeys })
-        (λ t c. record { starts = λ n h. absurd (none-has n h); left = c .left; obeys = c .obeys })
-        least
+      (λ t st. record { left = st .left; obeys = st .obeys })
+      (λ t c. record { starts = λ n h. absurd (none-has n h); left = c .left; obeys = c .obeys })
+      least
 
 -- a try whose set does not agree with its guess finds nothing
 pub found-only : (m : Meaning) (rules : List (Option Rule)) (unless g guess t s : ℕ) → Picks unless g guess → Smallest (Closed m rules guess) t → Found m rules unless g s → bitAnd t unless ≡ guess

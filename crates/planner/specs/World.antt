@@ -103,7 +103,7 @@ Step m w (stood set answer) after =
     (after ≡ w) × Answered (stands-grounds m w) (λ yes. Decides yes (Offers m w set)) (Unit {0}) answer
 Step m w (listed from before page answer) after =
     (after ≡ w) ×
-      Answered (list-grounds m w from)
-        (λ l. Page m w from before page (l .count) (l .next))
-        (page ≡ before)
-        answer
+    Answered (list-grounds m w from)
+    (λ l. Page m w from before page (l .count) (l .next))
+    (page ≡ before)
+    answer

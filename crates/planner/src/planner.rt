@@ -10,12 +10,12 @@ ghost use Rattle.std.specs.Options.{Cases};
 ghost use Rattle.std.specs.Orderings.{Decides};
 ghost use lib.ListN.{length, set};
 ghost use mathlib.Core.Path.{_≡_};
-use book::book::Book;
-use book::rows::Rule;
-use book::rows::Wording;
 use crate::listing::Listing;
 use crate::tries::close;
 use crate::tries::find;
+use book::book::Book;
+use book::rows::Rule;
+use book::rows::Wording;
 use facts::Facts;
 use sets::refusal::Refusal;
 
@@ -61,7 +61,14 @@ impl<F: Facts> Planner<F> {
         ensures step { λ r. ⌜ Step (F·Facts .meaning (facts-of (now (self .entry)))) (view (now (self .entry))) (ruled place (record { needs = needs; unless = unless; gives = gives }) r) (view (now (self .exit))) ⌝ }
         ensures facts { λ _. ⌜ facts-of (now (self .exit)) ≡ facts-of (now (self .entry)) ⌝ }
     {
-        self.book.rule(place, Rule { needs, unless, gives })
+        self.book.rule(
+            place,
+            Rule {
+                needs,
+                unless,
+                gives,
+            },
+        )
     }
 
     // Empties a place.
@@ -123,7 +130,14 @@ impl<F: Facts> Planner<F> {
         if from > total {
             return Err(Refusal::FromTooHigh);
         }
-        Ok(read(&self.facts, self.book.rules(), self.book.unless_lines(), from, total, page))
+        Ok(read(
+            &self.facts,
+            self.book.rules(),
+            self.book.unless_lines(),
+            from,
+            total,
+            page,
+        ))
     }
 
     // The book, to read.
@@ -135,7 +149,14 @@ impl<F: Facts> Planner<F> {
 }
 
 // Tries the guesses from `from` on, and writes each set found to the next place.
-fn read<F: Facts>(facts: &F, rules: &[Option<Rule>], unless: u64, from: u32, total: u32, page: &mut [u64]) -> Listing
+fn read<F: Facts>(
+    facts: &F,
+    rules: &[Option<Rule>],
+    unless: u64,
+    from: u32,
+    total: u32,
+    page: &mut [u64],
+) -> Listing
     requires { ⌜ GivesLines (now rules) ⌝ ∗ ⌜ from ≤ total ⌝ }
     ensures { λ r. ⌜ Stopped (Found (F·Facts .meaning (now (facts .entry))) (now (rules .entry)) unless) from total (now (page .entry)) (now (page .exit)) (r .count) (r .next) ⌝ }
 {

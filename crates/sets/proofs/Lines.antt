@@ -128,8 +128,8 @@ or-within a b t v w n h = ⊎-elim (v n) (w n) (or-has a b n h)
 pub or-group : (a b c : ℕ) → bitOr (bitOr a b) c ≡ bitOr a (bitOr b c)
 or-group a b c =
     same-lines (bitOr (bitOr a b) c) (bitOr a (bitOr b c))
-      (or-within (bitOr a b) c _ (or-within a b _ (λ n h. or-has-left a (bitOr b c) n h) (λ n h. or-has-right a (bitOr b c) n (or-has-left b c n h))) (λ n h. or-has-right a (bitOr b c) n (or-has-right b c n h)))
-      (or-within a (bitOr b c) _ (λ n h. or-has-left (bitOr a b) c n (or-has-left a b n h)) (or-within b c _ (λ n h. or-has-left (bitOr a b) c n (or-has-right a b n h)) (λ n h. or-has-right (bitOr a b) c n h)))
+    (or-within (bitOr a b) c _ (or-within a b _ (λ n h. or-has-left a (bitOr b c) n h) (λ n h. or-has-right a (bitOr b c) n (or-has-left b c n h))) (λ n h. or-has-right a (bitOr b c) n (or-has-right b c n h)))
+    (or-within a (bitOr b c) _ (λ n h. or-has-left (bitOr a b) c n (or-has-left a b n h)) (or-within b c _ (λ n h. or-has-left (bitOr a b) c n (or-has-right a b n h)) (λ n h. or-has-right (bitOr a b) c n h)))
 
 -- two smallest sets with one property are one set
 pub smallest-same : (P : ℕ → Type 0) (s t : ℕ) → Smallest P s → Smallest P t → s ≡ t
@@ -146,6 +146,7 @@ line-outside (suc k) s t = ⊎-elim inl (λ all. here all (has-or-not s k) (has-
   where
     upto : ((n : ℕ) → n < k → Has s n → Has t n) → (Has s k → Has t k) → (n : ℕ) → n < suc k → Has s n → Has t n
     upto all at n l h = elim (decLt n k) [ yes m ↦ all n m h | no m ↦ let e : n ≡ k = omega arith in subst (Has t) (sym e) (at (subst (Has s) e h)) ]
+
     here : ((n : ℕ) → n < k → Has s n → Has t n) → Has s k ⊎ (bit s k ≡ 0) → Has t k ⊎ (bit t k ≡ 0) → ((n : ℕ) × Has s n × (Has t n → ⊥)) ⊎ ((n : ℕ) → n < suc k → Has s n → Has t n)
     here all (inl a) (inl b) = inr (upto all (λ _. b))
     here all (inl a) (inr b) = inl (k, a, λ c. omega arith)

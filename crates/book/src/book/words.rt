@@ -8,7 +8,9 @@ ghost use mathlib.Core.List.{_++_};
 ghost use mathlib.Core.Path.{_≡_};
 
 pub const MOST_BYTES: usize = 24;
+
 const FIRST_PRINTED: u8 = 33;
+
 const LAST_PRINTED: u8 = 126;
 
 // Is every byte a printable one, and none a space?

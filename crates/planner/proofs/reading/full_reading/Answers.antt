@@ -26,12 +26,14 @@ loop-from-again g c =
     let cut : found - 0 ≡ found = omega arith in
     let long : length (take found page) ≡ found = length-take-le found page (omega (arith, listed .fits, listed .same-length)) in
     let room : c .loop-from .count + length (take (found - 0) page) ≤ length (c .loop-from .menus) =
-          omega (arith, ap (λ n. length (take n page)) cut, long, at .few, at .same-length, listed .few, listed .rises, listed .upto, c .guesses-total .ensures .count) in
+    omega (arith, ap (λ n. length (take n page)) cut, long, at .few, at .same-length, listed .few, listed .rises, listed .upto, c .guesses-total .ensures .count) in
     let added = c .append-count .ensures room in
     let exact = subst (λ n. Appended (c .loop-from .menus) (c .loop-from .count) (take n page) (length (take n page)) (c .append-count .last .menus) (c .append-count .result)) cut added in
-    let whole = subst (λ n. Appended (c .loop-from .menus) (c .loop-from .count) (take found page) n (c .append-count .last .menus) (c .append-count .result)) long exact in
-    (listed .same-length ∙ c .loop-from .inv .0, omega (arith, listed .upto, c .guesses-total .ensures .count),
-     read-more m (view p) (c .guesses-total .ensures .lines) (c .args .menus .now) (c .loop-from .menus) (c .loop-from .count) (c .loop-from .from) at blank page found next listed (c .append-count .last .menus) (c .append-count .result) whole)
+    let whole = subst (λ n. Appended (c .loop-from .menus) (c .loop-from .count) (take found page) n (c .append-count .last .menus) (c .append-count .result)) long exact in (
+      listed .same-length ∙ c .loop-from .inv .0,
+      omega (arith, listed .upto, c .guesses-total .ensures .count),
+      read-more m (view p) (c .guesses-total .ensures .lines) (c .args .menus .now) (c .loop-from .menus) (c .loop-from .count) (c .loop-from .from) at blank page found next listed (c .append-count .last .menus) (c .append-count .result) whole,
+    )
 
 pub loop-from-less : need.loop-from-less
 loop-from-less g c =
@@ -43,6 +45,7 @@ loop-from-less g c =
 pub returns : need.returns
 returns g c =
     let p = c .args .planner .now in
-    let at = c .loop-from .inv .2 in
-    ((c .in-Continue-stands .ensures tt .1 .0 .0, (omega (arith, c .guesses-total .ensures .count), tt)),
-     read-all (g .F·Facts .meaning (facts-of p)) (view p) (c .guesses-total .ensures .lines) (c .args .menus .now) (c .loop-from .menus) (c .loop-from .count) (c .loop-from .from) at (omega (arith, c .guesses-total .ensures .count)) (omega (arith, at .few, c .loop-from .inv .1)))
+    let at = c .loop-from .inv .2 in (
+      (c .in-Continue-stands .ensures tt .1 .0 .0, (omega (arith, c .guesses-total .ensures .count), tt)),
+      read-all (g .F·Facts .meaning (facts-of p)) (view p) (c .guesses-total .ensures .lines) (c .args .menus .now) (c .loop-from .menus) (c .loop-from .count) (c .loop-from .from) at (omega (arith, c .guesses-total .ensures .count)) (omega (arith, at .few, c .loop-from .inv .1)),
+    )

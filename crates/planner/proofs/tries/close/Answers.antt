@@ -16,7 +16,7 @@ returns-then-next-set g c =
     let f = c .args .facts .now in
     let obeys = Obeys (c .args .rules .now) (c .args .guess) in
     closed-from (c .args .rules .now) (c .args .guess) (g .F·Facts .meaning f) _
-      (reached-done (g .F·Facts .meaning f) (g .F·Facts·met .lawful f) obeys 0 _ _ _ (c .loop-set .inv) (c .turn-next .ensures .passed) (c .turn-next .ensures .followed) (c .if-next-set .taken))
+    (reached-done (g .F·Facts .meaning f) (g .F·Facts·met .lawful f) obeys 0 _ _ _ (c .loop-set .inv) (c .turn-next .ensures .passed) (c .turn-next .ensures .followed) (c .if-next-set .taken))
 
 pub loop-set-less : need.loop-set-less
 loop-set-less g c =

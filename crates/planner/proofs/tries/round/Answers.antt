@@ -21,13 +21,13 @@ loop-row-again c =
     let start = c .args .set in
     let next = Passed (ObeysBelow rules guess (i + 1)) start in
     elim (c .match-row .came) [
-      in-Some·then-fires w ↦
-        subst next (sym (w .set-is))
+      | in-Some·then-fires w ↦
+          subst next (sym (w .set-is))
           (round-fires rules guess i start (c .loop-row .set) (w .with-set .result) (w .in-Some .rule) (c .loop-row .inv) (w .in-Some .is) (w .fires .ensures .0 (w .if-fires .taken)) (w .with-set .ok) (w .with-set .ensures .old) (w .with-set .ensures .new (c .pre i (w .in-Some .rule) (w .in-Some .is))) (w .with-set .ensures .only))
       | in-Some·else-fires w ↦
-        subst next (sym (w .set-is))
+          subst next (sym (w .set-is))
           (round-rests rules guess i start (c .loop-row .set) (c .loop-row .inv)
-            (λ r here fires. not-from-decides (w .fires .result) (w .fires .ensures) (w .if-fires .left) (subst (λ x. Open x guess × Within (x .needs) (c .loop-row .set)) (some-same (sym here ∙ w .in-Some .is)) fires)))
+          (λ r here fires. not-from-decides (w .fires .result) (w .fires .ensures) (w .if-fires .left) (subst (λ x. Open x guess × Within (x .needs) (c .loop-row .set)) (some-same (sym here ∙ w .in-Some .is)) fires)))
       | in-rest w ↦ subst next (sym (w .set-is)) (round-rests rules guess i start (c .loop-row .set) (c .loop-row .inv) (λ r here fires. no-some (sym (w .in-rest .is) ∙ here)))
     ]
 

@@ -16,12 +16,13 @@ returns c =
     let here = sym (c .in-Some .ensures tt .said) in
     let few = c .in-Some .ensures tt .worded row refl in
     let long : length (take (row .len) (row .words)) ≡ row .len = length-take-le (row .len) (row .words) (omega arith) in
-    let cut : row .len - 0 ≡ row .len = omega arith in
-    ((omega arith, ((λ empty. empty (ap isSome here)), ((λ short. omega (arith, short .2, ap (λ s. length (s .words)) (some-same (sym (short .1) ∙ here)))), tt))),
-     record {
-       statement = said row;
-       here = here;
-       length-is = sym long;
-       number-is = refl;
-       bytes = c .copy .ensures (omega (arith, long, ap (λ n. length (take n (row .words))) cut)) ∙ ap (λ n. take n (row .words) ++ drop (length (take n (row .words))) (c .args .buffer .now)) cut ∙ ap (λ n. take (row .len) (row .words) ++ drop n (c .args .buffer .now)) long;
-     })
+    let cut : row .len - 0 ≡ row .len = omega arith in (
+      (omega arith, ((λ empty. empty (ap isSome here)), ((λ short. omega (arith, short .2, ap (λ s. length (s .words)) (some-same (sym (short .1) ∙ here)))), tt))),
+      record {
+        statement = said row;
+        here = here;
+        length-is = sym long;
+        number-is = refl;
+        bytes = c .copy .ensures (omega (arith, long, ap (λ n. length (take n (row .words))) cut)) ∙ ap (λ n. take n (row .words) ++ drop (length (take n (row .words))) (c .args .buffer .now)) cut ∙ ap (λ n. take (row .len) (row .words) ++ drop n (c .args .buffer .now)) long;
+      },
+    )

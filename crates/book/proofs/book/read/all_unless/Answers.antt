@@ -15,7 +15,7 @@ loop-row-again c =
     let i = c .loop-row .row-index in
     let rest = unless-lines (drop (i + 1) rules) in
     elim (c .match-row .came) [
-      in-Some w ↦ ap (λ s. bitOr s rest) (w .all-is) ∙ gather-more (λ r. r .unless) rules i (c .loop-row .all) (w .in-Some .rule) (c .loop-row-test .taken) (w .in-Some .is) ∙ c .loop-row .inv
+      | in-Some w ↦ ap (λ s. bitOr s rest) (w .all-is) ∙ gather-more (λ r. r .unless) rules i (c .loop-row .all) (w .in-Some .rule) (c .loop-row-test .taken) (w .in-Some .is) ∙ c .loop-row .inv
       | in-rest w ↦ ap (λ s. bitOr s rest) (w .all-is) ∙ ap (bitOr (c .loop-row .all)) (sym (union-more (λ r. r .unless) rules i None (c .loop-row-test .taken) (w .in-rest .is))) ∙ c .loop-row .inv
     ]
 

@@ -17,8 +17,8 @@ loop-line-again c =
     let rows = c .args .rows .now in
     let line = c .loop-line .line in
     elim (c .match-rows-line .came) [
-      in-Some w ↦
-        subst (FullBelow rows (line + 1)) (sym (w .written-is))
+      | in-Some w ↦
+          subst (FullBelow rows (line + 1)) (sym (w .written-is))
           (full-more rows line (c .loop-line .written) (c .loop-line .inv) (w .with-written .result) (ap isSome (w .in-Some .is)) (w .with-written .ensures .old) (w .with-written .ensures .new (omega arith)) (w .with-written .ensures .only))
       | in-rest w ↦ subst (FullBelow rows (line + 1)) (sym (w .written-is)) (full-same rows line (c .loop-line .written) (c .loop-line .inv) (w .in-rest .is))
     ]

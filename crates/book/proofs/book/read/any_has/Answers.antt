@@ -29,10 +29,10 @@ loop-row-again g c h =
     let line = c .args .line in
     let read = sym (getD-read rows i (c .row-item .result) (c .loop-row-test .taken) (c .row-item .is) None) in
     elim (c .match-row .came) [
-      in-Some·else-has w ↦
-        ⊎-elim (λ k. absurd (not-from-decides (w .has .result) (w .has .ensures) (w .if-has .left) k)) (λ k. k)
+      | in-Some·else-has w ↦
+          ⊎-elim (λ k. absurd (not-from-decides (w .has .result) (w .has .ensures) (w .if-has .left) k)) (λ k. k)
           (or-has (lines (w .in-Some .one)) (union lines (drop (i + 1) rows)) line
-            (subst (λ s. Has s line) (union-more lines rows i (Some (w .in-Some .one)) (c .loop-row-test .taken) (read ∙ w .in-Some .is)) (c .loop-row .inv h)))
+          (subst (λ s. Has s line) (union-more lines rows i (Some (w .in-Some .one)) (c .loop-row-test .taken) (read ∙ w .in-Some .is)) (c .loop-row .inv h)))
       | in-rest w ↦ subst (λ s. Has s line) (union-more lines rows i None (c .loop-row-test .taken) (read ∙ w .in-rest .is)) (c .loop-row .inv h)
     ]
 

@@ -22,10 +22,10 @@ loop-i-again g c =
     let numbered = g .R·Numbered .numbered in
     let read = sym (getD-read rows (c .loop-i .i) (c .index-rows-i .result) (c .loop-i-test .taken) (c .index-rows-i .is) None) in
     below-more _ _ (c .loop-i .inv)
-      (λ e. elim (c .match-row .came) [
-        in-Some·else-number w ↦ w .if-number .left (w .number .ensures ∙ some-same (sym (ap (mapped numbered) (read ∙ w .in-Some .is)) ∙ e))
-        | in-rest w ↦ no-some (sym (ap (mapped numbered) (read ∙ w .in-rest .is)) ∙ e)
-      ])
+    (λ e. elim (c .match-row .came) [
+      | in-Some·else-number w ↦ w .if-number .left (w .number .ensures ∙ some-same (sym (ap (mapped numbered) (read ∙ w .in-Some .is)) ∙ e))
+      | in-rest w ↦ no-some (sym (ap (mapped numbered) (read ∙ w .in-rest .is)) ∙ e)
+    ])
 
 pub returns : need.returns
 returns g c i e =

@@ -12,7 +12,7 @@ loop-i-again c room =
     let bytes = c .args .bytes .now in
     let i = c .loop-i .i in
     elim (c .if-i-buffer .came) [
-      then-i-buffer w ↦ w .buffer-is ∙ ap (λ b. set b i (getD bytes i 0)) (c .loop-i .inv room) ∙ copied-more bytes (c .args .buffer .now) i (c .loop-i-test .taken) (omega arith)
+      | then-i-buffer w ↦ w .buffer-is ∙ ap (λ b. set b i (getD bytes i 0)) (c .loop-i .inv room) ∙ copied-more bytes (c .args .buffer .now) i (c .loop-i-test .taken) (omega arith)
       | else-i-buffer w ↦ absurd (omega arith)
     ]
 

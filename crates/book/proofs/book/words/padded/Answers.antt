@@ -9,13 +9,14 @@ use Rattle.book.proofs.book.words.padded.Needs.{then-i-lt-MOST-BYTES, else-i-l
 pub loop-i-again : need.loop-i-again
 loop-i-again c =
     elim (c .if-i-lt-MOST-BYTES .came) [
-      then-i-lt-MOST-BYTES w ↦
-        (ap length (w .bytes-is) ∙ simp length-set (c .loop-i .inv .0),
-         λ few.
-          let before = c .loop-i .inv .1 (omega arith) in
-          let next = take-more (c .args .words .now) (c .loop-i .i) 0 (c .loop-i-test .taken) in
-          let written = take-more-set (c .loop-i .bytes) (c .loop-i .i) (getD (c .args .words .now) (c .loop-i .i) 0) (omega arith) in
-          cc)
+      | then-i-lt-MOST-BYTES w ↦ (
+        ap length (w .bytes-is) ∙ simp length-set (c .loop-i .inv .0),
+        λ few.
+            let before = c .loop-i .inv .1 (omega arith) in
+            let next = take-more (c .args .words .now) (c .loop-i .i) 0 (c .loop-i-test .taken) in
+            let written = take-more-set (c .loop-i .bytes) (c .loop-i .i) (getD (c .args .words .now) (c .loop-i .i) 0) (omega arith) in
+            cc,
+      )
       | else-i-lt-MOST-BYTES w ↦ (ap length (w .bytes-is) ∙ c .loop-i .inv .0, λ few. absurd (omega arith))
     ]
 

@@ -14,11 +14,16 @@ returns-then-at-ge-MOST-STEPS g c = record { step = (inr (omega arith, inl (simp
 pub ghost-self : need.ghost-self
 ghost-self g c =
     let rows = c .args .self .now .rows in
-    let at = c .args .self .now .count in
-    (simp length-set (omega arith),
-     (omega arith,
-      (each-set (λ x. IsLines (x .needs)) rows at _ no-step (c .args .self .now .«needs_fit») (omega arith),
-       (each-set (λ x. x .gives < 64) rows at _ no-step (c .args .self .now .«gives_fit») (omega arith), tt))))
+    let at = c .args .self .now .count in (
+      simp length-set (omega arith),
+      (
+        omega arith,
+        (
+          each-set (λ x. IsLines (x .needs)) rows at _ no-step (c .args .self .now .«needs_fit») (omega arith),
+          (each-set (λ x. x .gives < 64) rows at _ no-step (c .args .self .now .«gives_fit») (omega arith), tt),
+        ),
+      ),
+    )
 
 pub returns : need.returns
 returns g c = record {

@@ -16,10 +16,11 @@ pub loop-step-again : need.loop-step-again
 loop-step-again c =
     let steps = c .args .steps .now in
     let i = c .loop-step .step-index in
-    let all = c .loop-step .all in
-    (omega arith,
-     or-lt 64 all (c .lines-all .result) (c .loop-step .inv .1) (c .lines-all .ok),
-     ap (λ s. bitOr (bitOr all s) (lines-of (drop (i + 1) steps))) (c .lines-all .ensures) ∙ sym (named-more steps i all (c .loop-step-test .taken)) ∙ c .loop-step .inv .2)
+    let all = c .loop-step .all in (
+      omega arith,
+      or-lt 64 all (c .lines-all .result) (c .loop-step .inv .1) (c .lines-all .ok),
+      ap (λ s. bitOr (bitOr all s) (lines-of (drop (i + 1) steps))) (c .lines-all .ensures) ∙ sym (named-more steps i all (c .loop-step-test .taken)) ∙ c .loop-step .inv .2,
+    )
 
 pub returns : need.returns
 returns c =

@@ -18,9 +18,10 @@ loop-step-holds c = (omega arith, passed-none (λ _. Unit {0}) (c .args .set) (o
 pub loop-step-again : need.loop-step-again
 loop-step-again c =
     let steps = c .args .steps .now in
-    let i = c .loop-step .step-index in
-    (omega arith,
-     pass-more steps i (c .args .set) (c .loop-step .set) (c .fire-set .result) (c .loop-step-test .taken) (c .loop-step .inv .1) (passed-step (getD steps i no-step) (c .loop-step .set) (c .fire-set .result) (c .fire-set .ok) (c .fire-set .ensures)))
+    let i = c .loop-step .step-index in (
+      omega arith,
+      pass-more steps i (c .args .set) (c .loop-step .set) (c .fire-set .result) (c .loop-step-test .taken) (c .loop-step .inv .1) (passed-step (getD steps i no-step) (c .loop-step .set) (c .fire-set .result) (c .fire-set .ok) (c .fire-set .ensures)),
+    )
 
 pub returns : need.returns
 returns c = subst (λ ys. Passed (ObeysAll ys) (c .args .set) (c .loop-step .set)) (take-all _ _ (c .loop-step-test .left)) (c .loop-step .inv .1)

@@ -9,8 +9,8 @@ pub returns : need.returns
 returns g c =
     let lines = c .written .ensures in
     decides-like _
-      (λ out.
-        let line = outside-from-not-within (c .names .result) (c .written .result) out in
-        (line .0, subst (λ s. Has s (line .0)) (c .names .ensures) (line .1), λ full. line .2 (lines (line .0) .1 full)))
-      (λ line all. line .2 (lines (line .0) .0 (all (line .0) (subst (λ s. Has s (line .0)) (sym (c .names .ensures)) (line .1)))))
-      (decides-not (c .within .result) (c .within .ensures))
+    (λ out.
+    let line = outside-from-not-within (c .names .result) (c .written .result) out in
+    (line .0, subst (λ s. Has s (line .0)) (c .names .ensures) (line .1), λ full. line .2 (lines (line .0) .1 full)))
+    (λ line all. line .2 (lines (line .0) .0 (all (line .0) (subst (λ s. Has s (line .0)) (sym (c .names .ensures)) (line .1)))))
+    (decides-not (c .within .result) (c .within .ensures))

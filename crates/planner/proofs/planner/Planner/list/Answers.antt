@@ -14,7 +14,11 @@ returns g c =
     let from = c .args .from in
     let lines = subst IsLines (c .unless-lines .ensures) (c .unless-lines .ok) in
     let stopped =
-          subst₃ (λ rules unless total. Stopped (Found m rules unless) from total (c .args .page .now) (c .read .last .page) (c .read .result .count) (c .read .result .next))
-            (c .rules .ensures .same) (c .unless-lines .ensures) (c .guesses-total .ensures .count) (c .read .ensures) in
-    (refl, ((not-from-decides (c .facts-name-empty .result) (c .facts-name-empty .ensures) (c .if-facts-name-empty .left), (omega (arith, c .guesses-total .ensures .count), tt)),
-     page-from m (view p) lines from (c .args .page .now) (c .read .last .page) (c .read .result .count) (c .read .result .next) stopped))
+    subst₃ (λ rules unless total. Stopped (Found m rules unless) from total (c .args .page .now) (c .read .last .page) (c .read .result .count) (c .read .result .next))
+    (c .rules .ensures .same) (c .unless-lines .ensures) (c .guesses-total .ensures .count) (c .read .ensures) in (
+      refl,
+      (
+        (not-from-decides (c .facts-name-empty .result) (c .facts-name-empty .ensures) (c .if-facts-name-empty .left), (omega (arith, c .guesses-total .ensures .count), tt)),
+        page-from m (view p) lines from (c .args .page .now) (c .read .last .page) (c .read .result .count) (c .read .result .next) stopped,
+      ),
+    )

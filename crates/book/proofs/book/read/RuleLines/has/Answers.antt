@@ -15,6 +15,6 @@ returns c =
     let line = c .args .line in
     let both = bitOr (r .needs) (r .unless) in
     decides-like _
-      (⊎-elim (or-has-left both (2 ^ r .gives) line) (λ e. or-has-right both (2 ^ r .gives) line (subst (Has (2 ^ r .gives)) e (single-has (r .gives)))))
-      (λ h. ⊎-elim inl (λ k. inr (sym (single-only (r .gives) line k))) (or-has both (2 ^ r .gives) line h))
-      (decides-or (c .has .result) (eqb (r .gives) line) (c .has .ensures) (decides-eqb (r .gives) line))
+    (⊎-elim (or-has-left both (2 ^ r .gives) line) (λ e. or-has-right both (2 ^ r .gives) line (subst (Has (2 ^ r .gives)) e (single-has (r .gives)))))
+    (λ h. ⊎-elim inl (λ k. inr (sym (single-only (r .gives) line k))) (or-has both (2 ^ r .gives) line h))
+    (decides-or (c .has .result) (eqb (r .gives) line) (c .has .ensures) (decides-eqb (r .gives) line))

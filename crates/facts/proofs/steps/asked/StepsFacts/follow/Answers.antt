@@ -25,7 +25,7 @@ returns-then-next-reached g c =
     let lawful = g .F·Facts·met .lawful (f .below) in
     let passed = passed-told f (c .all-told-steps .result .now) (c .loop-reached .reached) (c .pass .result) (c .all-told-steps .ensures) (c .pass .ensures) in
     let least : Follows m (told f) (c .args .set) (c .loop-reached .reached) =
-          follows-from m lawful (told f) (told-are f) (c .args .set) _ (reached-done m lawful (ObeysAll (told f)) (c .args .set) _ _ _ (c .loop-reached .inv) passed (c .follow-next .ensures) (c .if-next-reached .taken)) in
+    follows-from m lawful (told f) (told-are f) (c .args .set) _ (reached-done m lawful (ObeysAll (told f)) (c .args .set) _ _ _ (c .loop-reached .inv) passed (c .follow-next .ensures) (c .if-next-reached .taken)) in
     record {
       computed = smallest-same (Closed m (told f) (c .args .set)) _ _ least (stepped-follows m lawful (told f) (told-are f) (c .args .set) (omega arith));
       smallest = least;
