@@ -6,7 +6,7 @@ use Prim.Native.Nat.{ℕ}
 use Rattle.std.specs.declared.result.Result.{Result}
 use Rattle.std.specs.declared.result.Result.the-variants.{Ok, Err}
 use Rattle.sets.specs.declared.refusal.Refusal.{Refusal}
-use Rattle.sets.specs.declared.refusal.Refusal.the-variants.{OutOfRange, Filled, BadWords, NumbersSpent, Empty, Held, Named, TooManyUnless, FactsNameEmpty, FromTooHigh, BufferTooShort, FactsFull}
+use Rattle.sets.specs.declared.refusal.Refusal.the-variants.{OutOfRange, Filled, BadWords, NumbersSpent, Empty, Held, Named, TooManyUnless, FactsNameEmpty, FromTooHigh, BufferTooShort, AtomsTooHigh, FactsFull, HasSense}
 
 -- the number by which a refusal is known outside
 abbrev pub numberOf : Refusal → ℕ
@@ -21,7 +21,9 @@ numberOf TooManyUnless = 8
 numberOf FactsNameEmpty = 9
 numberOf FromTooHigh = 10
 numberOf BufferTooShort = 14
+numberOf AtomsTooHigh = 18
 numberOf FactsFull = 19
+numberOf HasSense = 20
 
 -- one ground of a call: the refusal that it gives, and when it holds
 pub record Ground : Type 1 where

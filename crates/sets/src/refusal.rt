@@ -26,8 +26,12 @@ pub enum Refusal {
     FromTooHigh,
     // the buffer is too short for the answer
     BufferTooShort,
+    // a set of atoms above the last atom
+    AtomsTooHigh,
     // no room for a further fact
     FactsFull,
+    // the line has a sense already
+    HasSense,
 }
 
 impl Refusal {
@@ -47,7 +51,9 @@ impl Refusal {
             Refusal::FactsNameEmpty => 9,
             Refusal::FromTooHigh => 10,
             Refusal::BufferTooShort => 14,
+            Refusal::AtomsTooHigh => 18,
             Refusal::FactsFull => 19,
+            Refusal::HasSense => 20,
         }
     }
 }

@@ -1,0 +1,5 @@
+mod Bits
+mod Masks
+mod Gathering
+mod Deciding
+mod Entailing

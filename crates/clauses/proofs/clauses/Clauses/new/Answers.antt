@@ -1,0 +1,25 @@
+use mathlib.Core.Path.{refl, sym, subst, _∙_}
+use native.Mathlib.Omega.{arith}
+use Rattle.std.specs.declared.option.Option.the-variants.{None}
+use Rattle.sets.proofs.Rows.{replicate-each}
+use Rattle.clauses.specs.Rows.{IsClause, atom-count, no-clause, most-clauses}
+use Rattle.clauses.proofs.Entailing.{no-some}
+use Rattle.clauses.proofs.clauses.Clauses.new.Needs as need
+
+pub ghost-result : need.ghost-result
+ghost-result c = (
+  refl,
+  (
+    omega arith,
+    (
+      refl,
+      (
+        λ i. subst (IsClause atom-count) (sym (replicate-each most-clauses no-clause i)) (omega arith, omega arith),
+        (λ i d e. absurd (no-some (sym (replicate-each 64 None i) ∙ e)), tt),
+      ),
+    ),
+  ),
+)
+
+pub returns : need.returns
+returns c = record { clauses = refl; senses = λ n. replicate-each 64 None n }

@@ -1,0 +1,4 @@
+pub mod Rows
+pub mod Computed
+pub mod Words
+pub mod Told

@@ -1,0 +1,3 @@
+// Facts told by clauses over atoms, and lines whose sense is a clause.
+pub mod clause;
+pub mod clauses;
