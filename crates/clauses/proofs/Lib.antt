@@ -2,4 +2,4 @@ mod Bits
 mod Masks
 mod Gathering
 mod Deciding
-mod Entailing
+pub mod Entailing

@@ -1,2 +1,3 @@
 pub mod Closure
-mod Stepping
+pub mod Stepping
+pub mod Giving

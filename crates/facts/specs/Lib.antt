@@ -2,3 +2,5 @@ pub mod Meaning
 pub mod Closure
 pub mod Steps
 pub mod Told
+pub mod Given
+pub mod Layers

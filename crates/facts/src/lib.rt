@@ -2,6 +2,7 @@
 ghost use Rattle.facts.specs.Meaning.{Meaning, Lawful, bare};
 ghost use mathlib.Core.Path.{_≡_};
 
+pub mod given;
 pub mod step;
 pub mod steps;
 

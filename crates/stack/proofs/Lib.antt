@@ -1,0 +1,2 @@
+mod Stacking
+mod Housing
