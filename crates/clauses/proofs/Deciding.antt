@@ -1,5 +1,5 @@
 -- The tests that compute what follows decide what they should.
-use mathlib.Core.Path.{_≡_, refl, subst}
+use mathlib.Core.Path.{_≡_, refl, sym, subst, _∙_}
 use mathlib.Core.Logic.{_⊎_, inl, inr, ⊎-elim}
 use mathlib.Core.Bool.{Bool, true, false, not, _||_}
 use mathlib.Core.List.{List}
@@ -7,7 +7,7 @@ use Prim.Native.Nat.{ℕ, _/_, _%_, _^_, _<_}
 use native.Mathlib.Omega.{arith}
 use lib.Bits.{bitAnd}
 use lib.Dec.{eqb}
-use Rattle.std.proofs.shelf.Ways.{decides-eqb, decides-not, decides-or, decides-and, decides-like, decides-by-and, decides-below-and, not-from-decides}
+use Rattle.std.proofs.shelf.Ways.{decides-eqb, decides-not, decides-or, decides-and, decides-like, decides-by-and, decides-below-and, not-from-decides, same-from-decides}
 use Rattle.std.specs.Orderings.{Decides}
 use Rattle.std.specs.declared.option.Option.{Option}
 use Rattle.std.specs.declared.option.Option.the-variants.{Some, None}
@@ -15,6 +15,7 @@ use Rattle.sets.specs.Sets.{Has, IsLines}
 use Rattle.sets.proofs.Lines.{and-has, and-has-left, and-has-right, and-from-within, within-from-and, outside-from-not-within, same-lines, none-has, has-below}
 use Rattle.clauses.specs.Rows.{Meets, MeetsAll, MeetsSense, AllMeet, Left, Entailed}
 use Rattle.clauses.specs.Computed.{all-below, meets, meets-all, meets-sense, is-left, entails, entails-sense}
+use Rattle.clauses.specs.Words.{InTable, TableOf, in-table, Narrowed}
 use Rattle.clauses.specs.declared.clause.Clause.{Clause}
 
 pub all-below-decides : (p : ℕ → Bool) (P : ℕ → Type 0) → ((k : ℕ) → Decides (p k) (P k)) → (n : ℕ) → Decides (all-below p n) ((k : ℕ) → k < n → P k)
@@ -45,6 +46,20 @@ meets-decides c row =
 
 meets-all-decides : (row : ℕ) (cs : List Clause) → Decides (meets-all row cs) (MeetsAll cs row)
 meets-all-decides row cs = decides-by-and (λ c. meets c row) (λ c. Meets c row) (meets-all row) (λ c. meets-decides c row) refl (λ _ _. refl) cs
+
+-- a table of the rows that meet all the clauses, told by tests, or by what they decide
+module _ (cs : List Clause) (words : List ℕ) where
+  in-table-decides : (row : ℕ) → Decides (in-table words row) (InTable words row)
+  in-table-decides row = decides-eqb _ 1
+
+  pub table-from-narrowed : Narrowed cs words → TableOf (MeetsAll cs) words
+  table-from-narrowed same row l = (
+    λ h. meets-all-decides row cs .0 (sym (same row l) ∙ in-table-decides row .1 h),
+    λ m. in-table-decides row .0 (same row l ∙ meets-all-decides row cs .1 m),
+  )
+
+  pub narrowed-from-table : TableOf (MeetsAll cs) words → Narrowed cs words
+  narrowed-from-table table row l = same-from-decides _ _ (decides-like _ (table row l .0) (table row l .1) (in-table-decides row)) (meets-all-decides row cs)
 
 meets-sense-decides : (row : ℕ) (o : Option Clause) → Decides (meets-sense row o) (MeetsSense o row)
 meets-sense-decides row None = (λ _. tt, λ _. refl)

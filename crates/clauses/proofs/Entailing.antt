@@ -12,12 +12,10 @@ use Rattle.std.proofs.shelf.Lists.{getD-past, length-take-le}
 use Rattle.std.specs.Options.{isSome}
 use Rattle.std.specs.declared.option.Option.{Option}
 use Rattle.std.specs.declared.option.Option.the-variants.{Some, None}
-use Rattle.std.specs.shelf.Lists.{All}
 use Rattle.sets.specs.Sets.{Has, Within, IsLines}
 use Rattle.sets.proofs.Lines.{or-has, or-has-left, or-has-right, none-has, same-lines}
-use Rattle.sets.proofs.Rows.{all-front}
 use Rattle.facts.specs.Meaning.{Lawful}
-use Rattle.clauses.specs.Rows.{Exactly, IsClause, MeetsSense, AllMeet, Left, Follows, SensedLines, atom-count, no-clause}
+use Rattle.clauses.specs.Rows.{Exactly, MeetsSense, AllMeet, Left, Follows, SensedLines}
 use Rattle.clauses.specs.Computed.{gather, entails-sense, clausal}
 use Rattle.clauses.specs.Told.{clauses-of, sense-of}
 use Rattle.clauses.specs.declared.clause.Clause.{Clause}
@@ -45,10 +43,6 @@ sense-on-lines f n e = elim (decLt n 64) [
   | yes l ↦ l
   | no l ↦ let out : false ≡ true = sym (ap isSome (getD-past (f .senses) n None (omega (arith, f .lines)))) ∙ e in absurd (grind arith)
 ]
-
--- what was told are clauses
-pub told-are : (f : Clauses) → All (IsClause atom-count) (clauses-of f)
-told-are f = all-front (IsClause atom-count) (f .count) (f .told) no-clause (f .«told_fit»)
 
 pub told-length : (f : Clauses) → length (clauses-of f) ≡ f .count
 told-length f = length-take-le (f .count) (f .told) (omega (arith, f .long, f .few))

@@ -1,4 +1,4 @@
--- Words and tables of rows: what and, or and not make of them, and the steps of the loops over atoms, words, clauses and senses.
+-- Words and tables of rows: what and, or and not make of them, one clause more, and the steps of the loops over atoms, words and senses.
 use mathlib.Core.Path.{_≡_, sym, ap, subst, _∙_}
 use mathlib.Core.Logic.{_⊎_, inl, inr, ⊎-elim}
 use mathlib.Core.Bool.{Bool}
@@ -7,19 +7,20 @@ use Prim.Native.Nat.{ℕ, _+_, _-_, _*_, _/_, _%_, _^_, _<_, _≤_}
 use native.Mathlib.Decide.{decLt, ℕ-discrete}
 use native.Mathlib.Omega.{arith}
 use lib.Bits.{bitAnd, bitOr}
-use lib.ListN.{length, getD, set, take}
+use lib.ListN.{length, getD, set}
 use Rattle.std.proofs.shelf.Bits.{mod-below}
-use Rattle.std.proofs.shelf.Lists.{getD-set-same, getD-set-other, take-more}
+use Rattle.std.proofs.shelf.Lists.{getD-set-same, getD-set-other}
 use Rattle.std.proofs.shelf.Ways.{decides-like}
 use Rattle.std.specs.Orderings.{Decides}
 use Rattle.std.specs.declared.option.Option.{Option}
 use Rattle.sets.specs.Sets.{Has, Within, IsLines}
 use Rattle.sets.proofs.Lines.{has-or-not, has-under, has-below, none-has, or-has, or-has-left, or-has-right, and-has, and-has-left, and-has-right}
 use Rattle.sets.proofs.Rows.{all-push, all-pushed}
-use Rattle.clauses.specs.Rows.{Exactly, IsClause, Meets, MeetsAll, MeetsBy, MeetsSense, AllMeet, Left, Entailed, atom-count, no-clause}
-use Rattle.clauses.specs.Words.{InTable, RowOf, TableOf, WordOf}
+use Rattle.clauses.specs.Rows.{Exactly, IsClause, Meets, MeetsAll, MeetsBy, MeetsSense, AllMeet, Left, Entailed, atom-count}
+use Rattle.clauses.specs.Words.{InTable, RowOf, TableOf, WordOf, Narrowed}
 use Rattle.clauses.specs.declared.clause.Clause.{Clause}
 use Rattle.clauses.proofs.Bits.{other-bit}
+use Rattle.clauses.proofs.Deciding.{table-from-narrowed, narrowed-from-table}
 use Rattle.clauses.proofs.Entailing.{all-meet-fewer}
 
 -- ---- words
@@ -104,15 +105,14 @@ words-more P t u w x l below here row m = elim (ℕ-discrete (row / 64) w) [
       (λ h. before .0 (subst (λ z. Has z (row % 64)) same h), λ k. subst (λ z. Has z (row % 64)) (sym same) (before .1 k))
 ]
 
--- ---- the loop over the clauses
+-- ---- one clause more
 
-pub clauses-more : (cs : List Clause) (i : ℕ) (t u : List ℕ) → i < length cs
-    → TableOf (MeetsAll (take i cs)) t → TableOf (λ row. InTable t row × Meets (getD cs i no-clause) row) u → TableOf (MeetsAll (take (i + 1) cs)) u
-clauses-more cs i t u lt p q =
-    let x = getD cs i no-clause in
-    subst (λ ys. TableOf (MeetsAll ys) u) (sym (take-more cs i no-clause lt))
-    (table-then (MeetsAll (take i cs)) (Meets x) (MeetsAll (take i cs ++ x ∷ [])) t u
-    (λ row. (λ k. all-push (λ c. Meets c row) (take i cs) x (k .0) (k .1), all-pushed (λ c. Meets c row) (take i cs) x)) p q)
+pub narrowed-more : (cs : List Clause) (x : Clause) (t u : List ℕ) → Narrowed cs t → TableOf (λ row. InTable t row × Meets x row) u → Narrowed (cs ++ x ∷ []) u
+narrowed-more cs x t u p q =
+    narrowed-from-table (cs ++ x ∷ []) u
+    (table-then (MeetsAll cs) (Meets x) (MeetsAll (cs ++ x ∷ [])) t u
+    (λ row. (λ k. all-push (λ c. Meets c row) cs x (k .0) (k .1), all-pushed (λ c. Meets c row) cs x))
+    (table-from-narrowed cs t p) q)
 
 -- ---- the loop over the lines of a set
 

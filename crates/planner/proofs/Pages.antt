@@ -71,6 +71,7 @@ module _ (m : Meaning) (w : World) (lines : IsLines (guessed-of w)) where
         (guess-from (k .0) _ (omega (arith, k .4, k .5, at .upto)) (subst (F (k .0)) (place i (omega arith)) (k .2)))
         (guess-from (k .1) _ (omega (arith, k .5, at .upto)) (subst (F (k .1)) (place j lj) (k .3)));
     few = omega (arith, few, long);
+    at-end = λ end. (omega (arith, few, long, at .upto), omega (arith, few, long, at .upto));
     fits = at .fits;
     same-length = at .same-length;
     stays = at .stays;

@@ -82,6 +82,8 @@ pub record Page (m : Meaning) (w : World) (from : ℕ) (before after : List ℕ)
   pub ordered : (i j : ℕ) → i < j → j < count → Before (guessed-of w) (getD after i 0) (getD after j 0)
   -- no more places than guesses tried
   pub few : count ≤ next - from
+  -- from the end itself it writes nothing
+  pub at-end : from ≡ guesses w → (count ≡ 0) × (next ≡ guesses w)
   -- the places behind them stay
   pub fits : count ≤ length before
   pub same-length : length after ≡ length before

@@ -1,35 +1,19 @@
 // What clauses answer: the lines whose sense every row left meets, and the lines that have a sense.
 ghost use Rattle.clauses.specs.Computed.{clausal};
-ghost use Rattle.clauses.specs.Rows.{Follows, Left, MeetsAll, SensedLines, atom-count};
+ghost use Rattle.clauses.specs.Rows.{Follows, Left, SensedLines, atom-count};
 ghost use Rattle.clauses.specs.Told.{clauses-of, sense-of};
 ghost use Rattle.clauses.specs.Words.{TableOf};
 ghost use mathlib.Core.Path.{_≡_};
-use crate::clause::Clause;
 use crate::clauses::Clauses;
 use crate::clauses::rows;
 use crate::clauses::rows::WORDS;
 use facts::Facts;
 
-// The clauses that were told.
-fn all_told(facts: &Clauses) -> &[Clause]
-    ensures { λ r. ⌜ now r ≡ clauses-of (now (facts .entry)) ⌝ }
-{
-    &facts.told[0..facts.count]
-}
-
-// The rows that meet all clauses that were told.
-fn meet_told(facts: &Clauses) -> [u64; WORDS]
-    ensures { λ r. ⌜ TableOf (MeetsAll (clauses-of (now (facts .entry)))) r ⌝ }
-{
-    rows::meet_all(all_told(facts))
-}
-
-// The rows left: those of the table that meet the sense of every line of the set too.
-fn meet_senses(facts: &Clauses, set: u64, met: [u64; WORDS]) -> [u64; WORDS]
-    requires { ⌜ TableOf (MeetsAll (clauses-of (now facts))) met ⌝ }
+// The rows left: those that meet all clauses told, and the sense of every line of the set too.
+fn meet_senses(facts: &Clauses, set: u64) -> [u64; WORDS]
     ensures { λ r. ⌜ TableOf (Left atom-count (clauses-of (now (facts .entry))) (sense-of (now (facts .entry))) set) r ⌝ }
 {
-    let mut table = met;
+    let mut table = facts.met;
     for line in 0u32..64 {
         if sets::has(set, line) {
             let next = rows::meet_sense(table, facts.sense_of(line));
@@ -61,8 +45,7 @@ pub impl Facts for Clauses as ClausesFacts {
         ensures computed { λ r. ⌜ r ≡ clausal atom-count (clauses-of (now (self .entry))) (sense-of (now (self .entry))) .follow set ⌝ }
         ensures follows { λ r. ⌜ Follows atom-count (clauses-of (now (self .entry))) (sense-of (now (self .entry))) set r ⌝ }
     {
-        let met = meet_told(self);
-        let left = meet_senses(self, set, met);
+        let left = meet_senses(self, set);
         with_entailed(self, set, left)
     }
 

@@ -1,10 +1,9 @@
 // Sets of rows, in words of sixty-four.
 ghost use Prim.Native.Nat.{ℕ, _<_};
-ghost use Rattle.clauses.specs.Rows.{AllMeet, IsClause, IsSense, Meets, MeetsAll, MeetsBy, MeetsSense, atom-count};
+ghost use Rattle.clauses.specs.Rows.{AllMeet, IsClause, IsSense, Meets, MeetsBy, MeetsSense, atom-count};
 ghost use Rattle.clauses.specs.Words.{InTable, RowOf, TableOf, WordOf};
 ghost use Rattle.sets.specs.Sets.{Has};
 ghost use Rattle.std.specs.Orderings.{Decides};
-ghost use Rattle.std.specs.shelf.Lists.{All};
 use crate::clause::ATOMS;
 use crate::clause::Clause;
 
@@ -70,7 +69,7 @@ fn met(clause: Clause, word: usize) -> u64
 }
 
 // The rows of the table that meet the clause.
-fn meet(table: [u64; WORDS], clause: Clause) -> [u64; WORDS]
+pub fn meet(table: [u64; WORDS], clause: Clause) -> [u64; WORDS]
     requires { ⌜ IsClause atom-count clause ⌝ }
     ensures { λ r. ⌜ TableOf (λ row. InTable table row × Meets clause row) r ⌝ }
 {
@@ -97,19 +96,6 @@ pub fn every_row() -> [u64; WORDS]
     ensures { λ r. ⌜ TableOf (λ _. Unit {0}) r ⌝ }
 {
     [u64::MAX; WORDS]
-}
-
-// The rows that meet all the clauses.
-pub fn meet_all(clauses: &[Clause]) -> [u64; WORDS]
-    requires { ⌜ All (IsClause atom-count) (now clauses) ⌝ }
-    ensures { λ r. ⌜ TableOf (MeetsAll (now (clauses .entry))) r ⌝ }
-{
-    let mut table = every_row();
-    for clause in clauses {
-        let next = meet(table, *clause);
-        table = next;
-    }
-    table
 }
 
 // Does every row of the table meet the clause?

@@ -1,7 +1,8 @@
 // Making facts of clauses, adding a clause, giving a line its sense.
 ghost use Prim.Native.Nat.{ℕ, _^_, _≤_, _<_};
-ghost use Rattle.clauses.specs.Rows.{IsClause, atom-count, most-clauses};
+ghost use Rattle.clauses.specs.Rows.{IsClause, Meets, atom-count, most-clauses};
 ghost use Rattle.clauses.specs.Told.{PutClause, PutSense, SameSenses, TooHigh, clauses-of, sense-of};
+ghost use Rattle.clauses.specs.Words.{InTable, TableOf};
 ghost use Rattle.std.specs.Options.{isSome};
 ghost use Rattle.std.specs.Orderings.{Decides, When};
 ghost use Rattle.std.specs.declared.option.Option.the-variants.{None, Some};
@@ -14,6 +15,8 @@ use crate::clause::ALL_ATOMS;
 use crate::clause::Clause;
 use crate::clauses::Clauses;
 use crate::clauses::MOST_CLAUSES;
+use crate::clauses::rows;
+use crate::clauses::rows::WORDS;
 use sets::refusal::Refusal;
 
 // Has one of the sets an atom above the highest?
@@ -35,6 +38,7 @@ impl Clauses {
                 second: 0,
             }; MOST_CLAUSES],
             count: 0,
+            met: rows::every_row(),
             senses: [None; 64],
         }
     }
@@ -50,7 +54,9 @@ impl Clauses {
         if self.is_full() {
             return Err(Refusal::FactsFull);
         }
-        self.push(Clause { first, second });
+        let added = Clause { first, second };
+        let next = rows::meet(self.met, added);
+        self.push(added, next);
         Ok(())
     }
 
@@ -61,14 +67,15 @@ impl Clauses {
         self.count >= MOST_CLAUSES
     }
 
-    // Adds a clause where there is room, as the last.
-    fn push(&mut self, clause: Clause)
-        requires { ⌜ length (clauses-of (now self)) < most-clauses ⌝ ∗ ⌜ IsClause atom-count clause ⌝ }
+    // Adds a clause where there is room, as the last; `next` has the rows that meet it too.
+    fn push(&mut self, clause: Clause, next: [u64; WORDS])
+        requires { ⌜ length (clauses-of (now self)) < most-clauses ⌝ ∗ ⌜ TableOf (λ row. InTable (now self .met) row × Meets clause row) next ⌝ }
         ensures clauses { λ _. ⌜ clauses-of (now (self .exit)) ≡ clauses-of (now (self .entry)) ++ clause ∷ [] ⌝ }
         ensures senses { λ _. ⌜ SameSenses (sense-of (now (self .entry))) (sense-of (now (self .exit))) ⌝ }
     {
         self.told[self.count] = clause;
         self.count += 1;
+        self.met = next;
     }
 
     // Gives a line its sense.

@@ -1,8 +1,9 @@
-use mathlib.Core.Path.{refl, sym, subst, _∙_}
+use mathlib.Core.List.{[]}
+use mathlib.Core.Path.{refl, sym, _∙_}
 use native.Mathlib.Omega.{arith}
 use Rattle.std.specs.declared.option.Option.the-variants.{None}
 use Rattle.sets.proofs.Rows.{replicate-each}
-use Rattle.clauses.specs.Rows.{IsClause, atom-count, no-clause, most-clauses}
+use Rattle.clauses.proofs.Deciding.{narrowed-from-table}
 use Rattle.clauses.proofs.Entailing.{no-some}
 use Rattle.clauses.proofs.clauses.Clauses.new.Needs as need
 
@@ -14,7 +15,7 @@ ghost-result c = (
     (
       refl,
       (
-        λ i. subst (IsClause atom-count) (sym (replicate-each most-clauses no-clause i)) (omega arith, omega arith),
+        narrowed-from-table [] (c .every-row .result) (c .every-row .ensures),
         (λ i d e. absurd (no-some (sym (replicate-each 64 None i) ∙ e)), tt),
       ),
     ),

@@ -1,17 +1,18 @@
-use mathlib.Core.Path.{refl}
+use mathlib.Core.Path.{refl, sym, subst}
 use native.Mathlib.Omega.{arith}
 use Rattle.std.proofs.shelf.Lists.{length-set, take-more-set}
-use Rattle.sets.proofs.Rows.{each-set}
-use Rattle.clauses.specs.Rows.{IsClause, atom-count, no-clause}
+use Rattle.clauses.specs.Told.{clauses-of}
+use Rattle.clauses.specs.Words.{Narrowed}
 use Rattle.clauses.proofs.Entailing.{told-length}
+use Rattle.clauses.proofs.Masks.{narrowed-more}
 use Rattle.clauses.proofs.clauses.Clauses.push.Needs as need
 
 pub ghost-self : need.ghost-self
 ghost-self c =
-    let f = c .args .self .now in (
-      simp length-set (omega arith),
-      (omega (arith, told-length f), (f .lines, (each-set (IsClause atom-count) (f .told) (f .count) (c .args .clause) no-clause (f .«told_fit») (c .pre .1), (f .«senses_fit», tt)))),
-    )
+    let f = c .args .self .now in
+    let pushed = take-more-set (f .told) (f .count) (c .args .clause) (omega (arith, told-length f)) in
+    let narrowed = narrowed-more (clauses-of f) (c .args .clause) (f .met) (c .args .next) (f .narrowed) (c .pre .1) in
+    (simp length-set (omega arith), (omega (arith, told-length f), (f .lines, (subst (λ cs. Narrowed cs (c .args .next)) (sym pushed) narrowed, (f .«senses_fit», tt)))))
 
 pub returns : need.returns
 returns c =

@@ -10,4 +10,4 @@ use Rattle.clauses.proofs.clauses.Clauses.put_sense.Needs as need
 pub ghost-self : need.ghost-self
 ghost-self c =
     let f = c .args .self .now in
-    (f .long, (f .few, (simp length-set (omega arith), (f .«told_fit», (each-set (IsSense atom-count) (f .senses) _ _ None (f .«senses_fit») (λ d e. subst (IsClause atom-count) (some-same e) (c .pre .1)), tt)))))
+    (f .long, (f .few, (simp length-set (omega arith), (f .narrowed, (each-set (IsSense atom-count) (f .senses) _ _ None (f .«senses_fit») (λ d e. subst (IsClause atom-count) (some-same e) (c .pre .1)), tt)))))

@@ -5,12 +5,15 @@ use Rattle.std.proofs.shelf.Ways.{not-from-decides}
 use Rattle.clauses.specs.Rows.{IsSense, MeetsSense, atom-count}
 use Rattle.clauses.specs.Told.{clauses-of, sense-of}
 use Rattle.clauses.specs.Words.{InTable, TableOf}
+use Rattle.clauses.proofs.Deciding.{table-from-narrowed}
 use Rattle.clauses.proofs.Masks.{LeftBelow, left-none, left-more, left-same, left-all}
 use Rattle.clauses.proofs.clauses.asked.meet_senses.Needs as need
 use Rattle.clauses.proofs.clauses.asked.meet_senses.Needs.{then-has, else-has}
 
 pub loop-line-holds : need.loop-line-holds
-loop-line-holds c = let f = c .args .facts .now in left-none (clauses-of f) (sense-of f) (c .args .set) 0 (c .args .met) (c .pre)
+loop-line-holds c =
+    let f = c .args .facts .now in
+    left-none (clauses-of f) (sense-of f) (c .args .set) 0 (f .met) (table-from-narrowed (clauses-of f) (f .met) (f .narrowed))
 
 pub meet-sense-next-requires : need.meet-sense-next-requires
 meet-sense-next-requires c κs = subst (IsSense atom-count) (sym (c .sense-of .ensures)) (c .args .facts .now .«senses_fit» (c .loop-line .line))
