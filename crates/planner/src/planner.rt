@@ -1,18 +1,17 @@
 // The planner, and its calls.
-ghost use Prim.Native.Nat.{_+_, _≤_, _<_};
+ghost use Prim.Native.Nat.{_≤_};
 ghost use Rattle.book.specs.Rows.{GivesLines};
 ghost use Rattle.planner.specs.Laws.{MenuLaws};
 ghost use Rattle.planner.specs.Tries.{Found, Stopped};
 ghost use Rattle.planner.specs.View.{view, facts-of, book-of};
 ghost use Rattle.planner.specs.World.{NameEmpty, Step, fresh, guesses, guessed-of, wrote, struck, ruled, unruled, said, sought, stood, listed};
 ghost use Rattle.sets.specs.Sets.{IsLines};
-ghost use Rattle.std.specs.Options.{Cases};
 ghost use Rattle.std.specs.Orderings.{Decides};
-ghost use lib.ListN.{length, set};
 ghost use mathlib.Core.Path.{_≡_};
 use crate::listing::Listing;
 use crate::tries::close;
 use crate::tries::find;
+use crate::tries::put;
 use book::book::Book;
 use book::rows::Rule;
 use book::rows::Wording;
@@ -167,17 +166,4 @@ fn read<F: Facts>(
         next += 1;
     }
     Listing { count, next }
-}
-
-// Writes what was found to the next free place, and answers how many places are filled then.
-pub fn put(page: &mut [u64], count: usize, found: Option<u64>) -> usize
-    ensures { λ r. ⌜ (count < length (now (page .entry)) → Cases found ((now (page .exit) ≡ now (page .entry)) × (r ≡ count)) (λ s. (now (page .exit) ≡ set (now (page .entry)) count s) × (r ≡ count + 1))) ⌝ }
-{
-    match found {
-        Some(set) if count < page.len() => {
-            page[count] = set;
-            count + 1
-        }
-        _ => count,
-    }
 }

@@ -7,7 +7,7 @@ ghost use lib.ListN.{length};
 ghost use mathlib.Core.Path.{_≡_};
 use crate::listing::Listing;
 use crate::planner::Planner;
-use crate::planner::put;
+use crate::tries::put;
 use facts::Facts;
 use sets::refusal::Refusal;
 

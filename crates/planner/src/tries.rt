@@ -1,5 +1,5 @@
 // A try: the smallest set closed under the facts and the rules that a guess leaves open.
-ghost use Prim.Native.Nat.{ℕ};
+ghost use Prim.Native.Nat.{ℕ, _+_, _≤_, _<_};
 ghost use Rattle.book.specs.Rows.{GivesLines};
 ghost use Rattle.facts.specs.Closure.{Passed};
 ghost use Rattle.planner.specs.Menus.{Open, Obeys, Closed};
@@ -7,6 +7,8 @@ ghost use Rattle.planner.specs.Tries.{Turned, Found};
 ghost use Rattle.sets.specs.Sets.{Within, Smallest};
 ghost use Rattle.std.specs.Options.{Cases};
 ghost use Rattle.std.specs.Orderings.{Decides};
+ghost use lib.ListN.{length, set};
+ghost use mathlib.Core.Path.{_≡_};
 use book::rows::Rule;
 use facts::Facts;
 
@@ -66,5 +68,19 @@ pub fn find<F: Facts>(facts: &F, rules: &[Option<Rule>], unless: u64, number: u3
         Some(set)
     } else {
         None
+    }
+}
+
+// Writes what was found to the next free place, and answers how many places are filled then.
+pub fn put(page: &mut [u64], count: usize, found: Option<u64>) -> usize
+    ensures room { λ r. ⌜ (count < length (now (page .entry)) → Cases found ((now (page .exit) ≡ now (page .entry)) × (r ≡ count)) (λ s. (now (page .exit) ≡ set (now (page .entry)) count s) × (r ≡ count + 1))) ⌝ }
+    ensures none { λ r. ⌜ (length (now (page .entry)) ≤ count → (now (page .exit) ≡ now (page .entry)) × (r ≡ count)) ⌝ }
+{
+    match found {
+        Some(lines) if count < page.len() => {
+            page[count] = lines;
+            count + 1
+        }
+        _ => count,
     }
 }

@@ -4,9 +4,11 @@ ghost use Rattle.script.specs.Lines.{Bounded};
 ghost use Rattle.std.specs.Options.{Cases as BySome};
 ghost use lib.ListN.{length};
 
-pub mod print;
+mod print;
 pub mod request;
 pub mod session;
+
+pub use crate::print::bad;
 
 // Where a line ends, its end byte not counted, and where the next one would begin.
 #[derive(Clone, Copy)]

@@ -8,8 +8,8 @@ ghost use Rattle.stream.specs.Runs.{Answered, Answers, Appended};
 ghost use lib.ListN.{length};
 ghost use mathlib.Core.Path.{_≡_};
 use script::Bounds;
+use script::bad;
 use script::next_line;
-use script::print;
 use script::session::ROOM;
 use script::session::Session;
 use std::alloc::AllocError;
@@ -37,7 +37,7 @@ fn refuse(buffer: &mut [u8], out: &mut Vec<u8>) -> Result<(), AllocError>
     requires { ⌜ 32768 ≤ length (now buffer) ⌝ }
     ensures { λ r. ⌜ ByOk r (λ _. Appended (λ text. text ≡ badText 8192) (vec-items (now (out .entry))) (vec-items (now (out .exit)))) (λ _. Unit {0}) ⌝ }
 {
-    let end = print::bad(buffer, LONGEST);
+    let end = bad(buffer, LONGEST);
     out.extend_from_slice(&buffer[0..end])
 }
 

@@ -17,7 +17,7 @@ loop-set-again c room =
     let i = c .loop-set .set-index in
     let at = c .loop-set .inv room in
     let free : c .loop-set .filled < length (c .loop-set .menus) = omega (arith, at .filled, at .same-length) in
-    let put = c .put-filled .ensures free in
+    let put = c .put-filled .ensures .room free in
     subst₂ (Appended before (c .args .count) found (i + 1)) (sym (put .0)) (sym (put .1)) (appended-more before (c .args .count) found i (c .loop-set .menus) (c .loop-set .filled) at free)
 
 pub returns : need.returns
