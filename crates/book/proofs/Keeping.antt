@@ -25,7 +25,8 @@ use Rattle.book.specs.declared.rows.LineRow.{LineRow}
 use Rattle.book.specs.declared.rows.Rule.{Rule}
 use Rattle.book.specs.declared.rows.HoldRow.{HoldRow}
 use Rattle.book.specs.declared.rows.Tables.{Tables}
-use Rattle.book.proofs.Tables.{some-same, no-some, not-full, at-set, empty-at, full-map, union-at, union-has, union-set, union-unset}
+use Rattle.sets.proofs.Rows.{some-same, no-some}
+use Rattle.book.proofs.Tables.{not-full, at-set, empty-at, full-map, union-at, union-has, union-set, union-unset}
 
 module _ {X : Type 0} where
   -- a place that is not empty as it is seen through a function of its row is filled

@@ -16,7 +16,7 @@ use Rattle.std.specs.declared.option.Option.{Option}
 use Rattle.std.specs.declared.option.Option.the-variants.{Some, None}
 use Rattle.sets.specs.Sets.{Has, Within}
 use Rattle.sets.proofs.Lines.{or-has, or-has-left, or-has-right, or-within, or-group, none-has}
-use Rattle.sets.proofs.Rows.{replicate-each}
+use Rattle.sets.proofs.Rows.{replicate-each, some-same, no-some}
 use Rattle.book.specs.Rows.{at, Full, union}
 use Rattle.book.specs.Kept.{Distinct}
 use Rattle.book.specs.Contents.{Held}
@@ -26,12 +26,6 @@ use Rattle.book.specs.declared.rows.HoldRow.{HoldRow}
 -- ---- places
 
 module _ {X : Type 0} where
-  pub some-same : {x y : X} → Some x ≡ Some y → x ≡ y
-  some-same e = cc
-
-  pub no-some : {x : X} → None ≡ Some x → ⊥
-  no-some {x} e = let z : _≡_ {A = ℕ} 0 1 = cc in omega arith
-
   pub not-full : (rows : List (Option X)) (n : ℕ) → at rows n ≡ None → Full rows n → ⊥
   not-full rows n e full = let f : isSome {T = X} None ≡ true = sym (ap isSome e) ∙ full in grind arith
 

@@ -1,4 +1,4 @@
--- The calls that edit a book: on which grounds each is refused, and what an accepted one changes.
+-- The calls on a book: on which grounds each is refused, what it answers, and what an accepted one changes.
 use mathlib.Core.Path.{_≡_}
 use mathlib.Core.Logic.{_⊎_}
 use mathlib.Core.List.{List, [], _∷_, _++_}
@@ -106,6 +106,26 @@ PutRule c place rule answer after =
     (after ≡ c)
     answer
 
+abbrev pub unrule-grounds : Contents → ℕ → List Ground
+unrule-grounds c place =
+    record { gives = OutOfRange; when = 39 < place }
+    ∷ record { gives = Empty; when = Vacant (c .rules) place }
+    ∷ []
+
+-- the place is empty from now on
+abbrev pub Unrule : Contents → ℕ → Result (Unit {0}) Refusal → Contents → Type 0
+Unrule c place answer after =
+    Answered (unrule-grounds c place)
+    (λ _. after ≡ record {
+      lines = c .lines;
+      rules = set (c .rules) place None;
+      holds = c .holds;
+      next = c .next;
+      next-hold = c .next-hold;
+    })
+    (after ≡ c)
+    answer
+
 -- the words of the line do not fit a buffer of this length
 abbrev pub TooShort : Contents → ℕ → ℕ → Type 0
 TooShort c line room = (s : Statement) × (at (c .lines) line ≡ Some s) × (room < length (s .words))
@@ -132,26 +152,8 @@ SayWords c line before after answer = Answered (words-grounds c line (length bef
 abbrev pub number-at : Contents → ℕ → Option ℕ
 number-at c line = mapped (λ s. s .number) (at (c .lines) line)
 
--- the line that has this number now, or none
-abbrev pub Where : Contents → ℕ → Option ℕ → Type 0
-Where c number answer = Cases answer ((line : ℕ) → number-at c line ≡ Some number → ⊥) (λ line. number-at c line ≡ Some number)
-
-abbrev pub unrule-grounds : Contents → ℕ → List Ground
-unrule-grounds c place =
-    record { gives = OutOfRange; when = 39 < place }
-    ∷ record { gives = Empty; when = Vacant (c .rules) place }
-    ∷ []
-
--- the place is empty from now on
-abbrev pub Unrule : Contents → ℕ → Result (Unit {0}) Refusal → Contents → Type 0
-Unrule c place answer after =
-    Answered (unrule-grounds c place)
-    (λ _. after ≡ record {
-      lines = c .lines;
-      rules = set (c .rules) place None;
-      holds = c .holds;
-      next = c .next;
-      next-hold = c .next-hold;
-    })
-    (after ≡ c)
-    answer
+-- The line that has this number now, or none. Only one line has it, and no line has number 0.
+pub record Where (c : Contents) (number : ℕ) (answer : Option ℕ) : Type 0 where
+  pub here : Cases answer ((line : ℕ) → number-at c line ≡ Some number → ⊥) (λ line. number-at c line ≡ Some number)
+  pub one : (line other : ℕ) → number-at c line ≡ Some number → number-at c other ≡ Some number → line ≡ other
+  pub not-zero : number ≡ 0 → answer ≡ None

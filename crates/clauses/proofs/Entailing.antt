@@ -27,13 +27,6 @@ use Rattle.clauses.proofs.Gathering.{gather-gathers, gather-below}
 pub same-by : (P : ℕ → Type 0) (r t : ℕ) → ((n : ℕ) → Exactly (Has r n) (P n)) → ((n : ℕ) → Exactly (Has t n) (P n)) → r ≡ t
 same-by P r t a b = same-lines r t (λ n h. b n .1 (a n .0 h)) (λ n h. a n .1 (b n .0 h))
 
--- a value and none
-pub some-same : {X : Type 0} {x y : X} → Some x ≡ Some y → x ≡ y
-some-same e = cc
-
-pub no-some : {X : Type 0} {x : X} → None ≡ Some x → ⊥
-no-some {X} {x} e = let z : _≡_ {A = ℕ} 0 1 = cc in omega arith
-
 -- every line that has a sense is a line
 abbrev pub OnLines : (ℕ → Option Clause) → Type 0
 OnLines sense = (n : ℕ) → isSome (sense n) ≡ true → n < 64

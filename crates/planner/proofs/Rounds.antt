@@ -23,7 +23,8 @@ use Rattle.facts.specs.Closure.{Passed}
 use Rattle.facts.proofs.Closure.{passed-none, passed-line, passed-then, Stable}
 use Rattle.book.specs.Rows.{at}
 use Rattle.book.specs.declared.rows.Rule.{Rule}
-use Rattle.book.proofs.Tables.{full-below, some-same}
+use Rattle.sets.proofs.Rows.{some-same}
+use Rattle.book.proofs.Tables.{full-below}
 use Rattle.planner.specs.Menus.{Open, Obeys, Closed}
 use Rattle.planner.specs.Tries.{Found}
 

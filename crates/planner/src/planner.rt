@@ -114,7 +114,8 @@ impl<F: Facts> Planner<F> {
         if self.facts_name_empty() {
             return Err(Refusal::FactsNameEmpty);
         }
-        let least = close(&self.facts, self.book.rules(), set);
+        let start = self.facts.follow(0);
+        let least = close(&self.facts, self.book.rules(), set, start);
         Ok(least == set)
     }
 
@@ -159,10 +160,12 @@ fn read<F: Facts>(
     requires { ⌜ GivesLines (now rules) ⌝ ∗ ⌜ from ≤ total ⌝ }
     ensures { λ r. ⌜ Stopped (Found (F·Facts .meaning (now (facts .entry))) (now (rules .entry)) unless) from total (now (page .entry)) (now (page .exit)) (r .count) (r .next) ⌝ }
 {
+    // what follows from nothing, where each try starts
+    let start = facts.follow(0);
     let mut count = 0;
     let mut next = from;
     while count < page.len() && next < total {
-        count = put(page, count, find(facts, rules, unless, next));
+        count = put(page, count, find(facts, rules, unless, start, next));
         next += 1;
     }
     Listing { count, next }

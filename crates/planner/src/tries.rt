@@ -42,12 +42,13 @@ fn turn<F: Facts>(facts: &F, rules: &[Option<Rule>], guess: u64, set: u64) -> u6
     facts.follow(round(rules, guess, set))
 }
 
-// Turns, until one adds nothing.
-pub fn close<F: Facts>(facts: &F, rules: &[Option<Rule>], guess: u64) -> u64
-    requires { ⌜ GivesLines (now rules) ⌝ }
+// Turns from what follows from nothing, until one adds nothing.
+pub fn close<F: Facts>(facts: &F, rules: &[Option<Rule>], guess: u64, start: u64) -> u64
+    requires lines { ⌜ GivesLines (now rules) ⌝ }
+    requires start { ⌜ start ≡ F·Facts .meaning (now facts) .follow 0 ⌝ }
     ensures { λ r. ⌜ Smallest (Closed (F·Facts .meaning (now (facts .entry))) (now (rules .entry)) guess) r ⌝ }
 {
-    let mut set = facts.follow(0);
+    let mut set = start;
     loop {
         let next = turn(facts, rules, guess, set);
         if next == set {
@@ -58,12 +59,19 @@ pub fn close<F: Facts>(facts: &F, rules: &[Option<Rule>], guess: u64) -> u64
 }
 
 // What a guess finds, if anything.
-pub fn find<F: Facts>(facts: &F, rules: &[Option<Rule>], unless: u64, number: u32) -> Option<u64>
-    requires { ⌜ GivesLines (now rules) ⌝ }
+pub fn find<F: Facts>(
+    facts: &F,
+    rules: &[Option<Rule>],
+    unless: u64,
+    start: u64,
+    number: u32,
+) -> Option<u64>
+    requires lines { ⌜ GivesLines (now rules) ⌝ }
+    requires start { ⌜ start ≡ F·Facts .meaning (now facts) .follow 0 ⌝ }
     ensures { λ r. ⌜ Cases r ((s : ℕ) → Found (F·Facts .meaning (now (facts .entry))) (now (rules .entry)) unless number s → ⊥) (Found (F·Facts .meaning (now (facts .entry))) (now (rules .entry)) unless number) ⌝ }
 {
     let guess = sets::pick::pick(unless, u64::from(number));
-    let set = close(facts, rules, guess);
+    let set = close(facts, rules, guess, start);
     if set & unless == guess {
         Some(set)
     } else {

@@ -1,5 +1,5 @@
 // Full readings of fixed books, smallest to largest: how many menus each has, of how many guesses.
-// An argument says how often each book is read, so that a run can be timed from outside.
+// So that a run can be timed from outside, a first argument says how often each book is read, and a second which book alone.
 use clauses::clauses::Clauses;
 use clauses::clauses::ClausesFacts;
 use facts::Bare;
@@ -69,12 +69,23 @@ fn read<F: Facts>(
     Ok(())
 }
 
-// How often each book is read: the first argument, or once.
-fn times(rt: &LibcRuntime) -> Result<u32, AnyError> {
-    match env::args(rt)?.nth(1) {
-        Some(word) => Ok(word.parse::<u32>()?),
-        None => Ok(1),
-    }
+// What the arguments ask for.
+struct Asked {
+    times: u32,
+    only: Option<u32>,
+}
+
+fn arguments(rt: &LibcRuntime) -> Result<Asked, AnyError> {
+    let mut words = env::args(rt)?.skip(1);
+    let times = match words.next() {
+        Some(word) => word.parse::<u32>()?,
+        None => 1,
+    };
+    let only = match words.next() {
+        Some(word) => Some(word.parse::<u32>()?),
+        None => None,
+    };
+    Ok(Asked { times, only })
 }
 
 // The book of so many pairs, over bare facts.
@@ -92,17 +103,28 @@ fn clause_book() -> Result<Planner<Clauses>, Refusal> {
     Ok(planner)
 }
 
-fn main(rt: LibcRuntime) -> Result<(), AnyError> {
-    let times = times(&rt)?;
-    for pairs in 0u32..7 {
-        match bare_book(pairs) {
-            Ok(planner) => read(&rt, "pairs over bare facts", &planner, times)?,
+// Books 0 to 6 are of so many pairs over bare facts, the last is over clauses.
+fn read_book(rt: &LibcRuntime, book: u32, times: u32) -> Result<(), AnyError> {
+    if book < 7 {
+        match bare_book(book) {
+            Ok(planner) => read(rt, "pairs over bare facts", &planner, times)?,
+            Err(refusal) => println!(rt, "no {}", refusal.number())?,
+        }
+    } else {
+        match clause_book() {
+            Ok(planner) => read(rt, "40 rules over clauses", &planner, times)?,
             Err(refusal) => println!(rt, "no {}", refusal.number())?,
         }
     }
-    match clause_book() {
-        Ok(planner) => read(&rt, "40 rules over clauses", &planner, times)?,
-        Err(refusal) => println!(rt, "no {}", refusal.number())?,
+    Ok(())
+}
+
+fn main(rt: LibcRuntime) -> Result<(), AnyError> {
+    let Asked { times, only } = arguments(&rt)?;
+    for book in 0u32..8 {
+        if only.is_none() || only == Some(book) {
+            read_book(&rt, book, times)?;
+        }
     }
     Ok(())
 }

@@ -4,7 +4,15 @@ use mathlib.Core.List.{List, [], _∷_, _++_}
 use Prim.Native.Nat.{ℕ, zero, suc, _<_}
 use native.Mathlib.Omega.{arith}
 use lib.ListN.{length, getD, set, take, replicate}
+use Rattle.std.specs.declared.option.Option.the-variants.{Some, None}
 use Rattle.std.specs.shelf.Lists.{All}
+
+-- two optional rows that are one have one row, and none is not some
+pub some-same : {X : Type 0} {x y : X} → Some x ≡ Some y → x ≡ y
+some-same e = cc
+
+pub no-some : {X : Type 0} {x : X} → None ≡ Some x → ⊥
+no-some {X} {x} e = let z : _≡_ {A = ℕ} 0 1 = cc in omega arith
 
 -- what holds of each row and of the one written holds of each row after
 pub each-set : {X : Type 0} (P : X → Type 0) (xs : List X) (i : ℕ) (v d : X) → ((j : ℕ) → P (getD xs j d)) → P v → (j : ℕ) → P (getD (set xs i v) j d)

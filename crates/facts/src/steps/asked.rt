@@ -1,9 +1,10 @@
 // What steps answer: the smallest set closed under them, and every line that they name.
-ghost use Prim.Native.Nat.{_<_};
+ghost use Prim.Native.Nat.{ℕ, _<_};
 ghost use Rattle.facts.specs.Closure.{Passed};
 ghost use Rattle.facts.specs.Meaning.{Meaning};
 ghost use Rattle.facts.specs.Steps.{IsStep, Obeys, Fires, Follows, lines-in, lines-of, stepped};
 ghost use Rattle.facts.specs.Told.{told};
+ghost use Rattle.sets.specs.Sets.{IsLines};
 ghost use Rattle.std.specs.shelf.Lists.{All};
 ghost use lib.Bits.{bitOr};
 ghost use mathlib.Core.Path.{_≡_};
@@ -67,6 +68,7 @@ pub impl<F: Facts> Facts for Steps<F> as StepsFacts {
     fn follow(&self, set: u64) -> u64
         ensures computed { λ r. ⌜ r ≡ stepped (told (now (self .entry))) (F·Facts .meaning (now (self .entry) .below)) .follow set ⌝ }
         ensures smallest { λ r. ⌜ Follows (F·Facts .meaning (now (self .entry) .below)) (told (now (self .entry))) set r ⌝ }
+        ensures every { λ _. ⌜ ((s : ℕ) → IsLines s → Follows (F·Facts .meaning (now (self .entry) .below)) (told (now (self .entry))) s (stepped (told (now (self .entry))) (F·Facts .meaning (now (self .entry) .below)) .follow s)) ⌝ }
     {
         let steps = all_told(self);
         let mut reached = self.below.follow(set);

@@ -9,7 +9,7 @@ pub loop-set-holds : need.loop-set-holds
 loop-set-holds g c =
     let f = c .args .facts .now in
     let obeys = Obeys (c .args .rules .now) (c .args .guess) in
-    subst (Reached (g .F·Facts .meaning f) obeys 0) (sym (c .follow-set .ensures)) (reached-start (g .F·Facts .meaning f) (g .F·Facts·met .lawful f) obeys 0 (omega arith))
+    subst (Reached (g .F·Facts .meaning f) obeys 0) (sym (c .pre .start)) (reached-start (g .F·Facts .meaning f) (g .F·Facts·met .lawful f) obeys 0 (omega arith))
 
 pub returns-then-next-set : need.returns-then-next-set
 returns-then-next-set g c =

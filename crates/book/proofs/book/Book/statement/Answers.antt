@@ -4,7 +4,8 @@ use Rattle.std.specs.Options.{mapped}
 use Rattle.std.specs.declared.option.Option.the-variants.{None}
 use Rattle.std.proofs.shelf.Lists.{getD-past}
 use Rattle.book.specs.View.{said}
-use Rattle.book.proofs.Tables.{at-map, no-some}
+use Rattle.sets.proofs.Rows.{no-some}
+use Rattle.book.proofs.Tables.{at-map}
 use Rattle.book.proofs.book.Book.statement.Needs as need
 
 pub returns-then-line-gt63 : need.returns-then-line-gt63

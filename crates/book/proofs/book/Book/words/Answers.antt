@@ -4,7 +4,7 @@ use Prim.Native.Nat.{_-_}
 use lib.ListN.{length, take, drop}
 use Rattle.std.specs.Options.{isSome}
 use Rattle.book.specs.View.{said}
-use Rattle.book.proofs.Tables.{some-same}
+use Rattle.sets.proofs.Rows.{some-same}
 use Rattle.std.proofs.shelf.Lists.{length-take-le}
 use mathlib.Core.List.{_++_}
 use mathlib.Core.Path.{_≡_}

@@ -5,7 +5,8 @@ use Rattle.std.proofs.shelf.Lists.{getD-read}
 use Rattle.std.specs.Options.{isSome, mapped}
 use Rattle.std.specs.declared.option.Option.the-variants.{Some, None}
 use Rattle.book.specs.Rows.{at}
-use Rattle.book.proofs.Tables.{no-some, some-same, full-below, full-from-number}
+use Rattle.sets.proofs.Rows.{no-some, some-same}
+use Rattle.book.proofs.Tables.{full-below, full-from-number}
 use Rattle.book.proofs.book.search.place_of.Needs as need
 use Rattle.book.proofs.book.search.place_of.Needs.{in-Some·else-number, in-rest}
 

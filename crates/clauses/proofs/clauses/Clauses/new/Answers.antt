@@ -4,7 +4,7 @@ use native.Mathlib.Omega.{arith}
 use Rattle.std.specs.declared.option.Option.the-variants.{None}
 use Rattle.sets.proofs.Rows.{replicate-each}
 use Rattle.clauses.proofs.Deciding.{narrowed-from-table}
-use Rattle.clauses.proofs.Entailing.{no-some}
+use Rattle.sets.proofs.Rows.{no-some}
 use Rattle.clauses.proofs.clauses.Clauses.new.Needs as need
 
 pub ghost-result : need.ghost-result

@@ -4,7 +4,7 @@ use Rattle.std.proofs.shelf.Lists.{length-set}
 use Rattle.std.specs.declared.option.Option.the-variants.{None}
 use Rattle.sets.proofs.Rows.{each-set}
 use Rattle.clauses.specs.Rows.{IsClause, IsSense, atom-count}
-use Rattle.clauses.proofs.Entailing.{some-same}
+use Rattle.sets.proofs.Rows.{some-same}
 use Rattle.clauses.proofs.clauses.Clauses.put_sense.Needs as need
 
 pub ghost-self : need.ghost-self

@@ -45,4 +45,4 @@ returns c =
     let all : Follows atom-count (clauses-of f) (sense-of f) set (c .loop-line .all) =
     gathered-all entailed set (c .loop-line .line) (c .loop-line .all) (c .loop-line .inv)
     (λ n e. omega (arith, on n (all-meet-some (Left atom-count (clauses-of f) (sense-of f) set) (sense-of f n) e))) in
-    record { computed = same-by (λ n. Has set n ⊎ entailed n) _ _ all (computed-follows atom-count (clauses-of f) (sense-of f) on set (omega arith)); follows = all }
+    record { computed = same-by (λ n. Has set n ⊎ entailed n) _ _ all (computed-follows atom-count (clauses-of f) (sense-of f) on set (omega arith)); follows = all; every = computed-follows atom-count (clauses-of f) (sense-of f) on }

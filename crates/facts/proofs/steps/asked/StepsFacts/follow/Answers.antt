@@ -29,6 +29,7 @@ returns-then-next-reached g c =
     record {
       computed = smallest-same (Closed m (told f) (c .args .set)) _ _ least (stepped-follows m lawful (told f) (told-are f) (c .args .set) (omega arith));
       smallest = least;
+      every = stepped-follows m lawful (told f) (told-are f);
     }
 
 pub loop-reached-less : need.loop-reached-less
