@@ -1,4 +1,6 @@
 // Scripts whose answers were worked out by hand from the rules. Each is run and compared.
+#![tactic(auto)]
+
 mod longest;
 mod menus;
 mod refusals;

@@ -1,4 +1,5 @@
 pub mod Meaning
+pub mod Baring
 pub mod Closure
 pub mod Steps
 pub mod Told

@@ -1,8 +1,9 @@
 // Facts: which lines follow from which, and which lines they speak of.
+#![tactic(auto)]
+
 ghost use Rattle.facts.specs.Meaning.{Meaning, Lawful, bare};
-ghost use Rattle.std.specs.Prelude.{◌≡◌, refl};
-ghost use Rattle.std.proofs.Common.{arith};
-ghost use Rattle.sets.proofs.Lines.{or_has_left};
+ghost use Rattle.facts.specs.Baring.{bare_lawful};
+ghost use Rattle.std.specs.Prelude.{◌≡◌};
 
 pub mod given;
 pub mod step;
@@ -30,15 +31,7 @@ pub struct Bare;
 impl Facts for Bare {
     ghost meaning = { λ _. bare };
 
-    ghost lawful = { λ f.
-        record {
-          names_lines = omega arith;
-          follow_lines = λ s l. l;
-          keeps = λ s l n h. h;
-          monotone = λ s t l m w. w;
-          settled = λ s l. refl;
-          named = λ s l n h. or_has_left s 0 n h;
-        } };
+    ghost lawful = { λ _. bare_lawful };
 
     fn follow(&self, set: u64) -> u64
         ensures { result ≡ set }

@@ -1,4 +1,6 @@
 // Runs a table of cases over facts of every kind and prints each with its answer, then how many failed.
+#![tactic(auto)]
+
 mod clause_cases;
 mod given_cases;
 mod house_cases;

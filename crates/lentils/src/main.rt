@@ -1,4 +1,6 @@
 // One sack of red lentils, from the day that it comes in until its line is another dish's: each call with its answer.
+#![tactic(auto)]
+
 mod held;
 mod kitchen;
 mod menus;

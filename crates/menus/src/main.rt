@@ -1,4 +1,6 @@
 // Answers a script on standard input, line by line, on standard output.
+#![tactic(auto)]
+
 use std::io;
 use std::io::{Read, Write};
 use stream::{LONGEST, run};

@@ -1,4 +1,6 @@
 // The planner: owns its facts and its book, and lists the menus page by page.
+#![tactic(auto)]
+
 pub mod planner;
 pub mod reading;
 mod tries;

@@ -1,5 +1,7 @@
 // Full readings of fixed books, smallest to largest: how many menus each has, of how many guesses.
 // So that a run can be timed from outside, a first argument says how often each book is read, and a second which book alone.
+#![tactic(auto)]
+
 use clauses::clauses::Clauses;
 use facts::{Bare, Facts};
 use planner::Planner;

@@ -1,4 +1,6 @@
 // The record of a saved menu: its lines with their numbers, as bytes.
+#![tactic(auto)]
+
 pub mod entries;
 pub mod fault;
 pub mod read;

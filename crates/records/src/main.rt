@@ -1,4 +1,6 @@
 // Reads and writes records from tables, and prints what comes of each.
+#![tactic(auto)]
+
 mod lists;
 mod long;
 mod reads;

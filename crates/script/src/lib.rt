@@ -1,4 +1,6 @@
 // One line of a script is read, asked of a planner, and answered by bytes.
+#![tactic(auto)]
+
 ghost use Rattle.std.specs.Prelude.{◌≤◌, length, MatchOption};
 ghost use Rattle.script.specs.Lines.{Bounded};
 

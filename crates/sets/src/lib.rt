@@ -1,4 +1,6 @@
 // Sets of lines in 64 bits, and the refusals that every layer above answers with.
+#![tactic(auto)]
+
 ghost use Rattle.std.specs.Prelude.{◌≡◌, ℕ, ◌^◌, ◌<◌, ◌⊎◌, Decides};
 ghost use Rattle.sets.specs.Sets.{Has, Within};
 

@@ -1,4 +1,6 @@
 // Facts in layers: a given set over steps over a given set over facts of any kind.
+#![tactic(auto)]
+
 ghost use Rattle.facts.specs.Given.{given};
 ghost use Rattle.facts.specs.Meaning.{Meaning};
 ghost use Rattle.facts.specs.Steps.{Follows, lines_of};

@@ -1,4 +1,6 @@
 // A whole script is answered, line by line.
+#![tactic(auto)]
+
 ghost use Rattle.std.specs.Prelude.{◌≡◌, ◌≤◌, length, OnOk};
 ghost use Rattle.script.specs.Answering.{LineAnswer};
 ghost use Rattle.script.specs.Texts.{bad_text};

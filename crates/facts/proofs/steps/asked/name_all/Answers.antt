@@ -15,7 +15,7 @@ loop-step-preserved c =
     let i = c.loop-step.step-index in
     let all = c.loop-step.all in (
       omega arith,
-      or_lt 64 all c.lines-all.result c.loop-step.invariant.1 c.lines-all.type-inv,
+      or_lt 64 all c.lines-all.result c.loop-step.invariant.1 c.lines-all.type_inv,
       ap (λ s. bit_or (bit_or all s) (lines_of (drop (i + 1) steps))) c.lines-all.ensures ∙ sym (named_more steps i all c.loop-step-test.true) ∙ c.loop-step.invariant.2,
     )
 

@@ -17,7 +17,7 @@ loop-step-preserved c =
     let steps = c.args.steps.now in
     let i = c.loop-step.step-index in (
       omega arith,
-      pass_more steps i c.args.set c.loop-step.set c.fire-set.result c.loop-step-test.true c.loop-step.invariant.1 (passed_step (get_or steps i no_step) c.loop-step.set c.fire-set.result c.fire-set.type-inv c.fire-set.ensures),
+      pass_more steps i c.args.set c.loop-step.set c.fire-set.result c.loop-step-test.true c.loop-step.invariant.1 (passed_step (get_or steps i no_step) c.loop-step.set c.fire-set.result c.fire-set.type_inv c.fire-set.ensures),
     )
 
 pub returns : goal.returns

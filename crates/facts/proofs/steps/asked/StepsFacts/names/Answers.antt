@@ -4,5 +4,5 @@ use Rattle.facts.specs.Steps.{IsStep}
 use Rattle.facts.specs.Stepping.{told_are}
 use Rattle.facts.proofs.steps.asked.StepsFacts.names.Goals as goal
 
-pub name-all-requires : goal.name-all-requires
-name-all-requires g c = subst (All IsStep) (sym c.all-told.ensures) (told_are c.args.self.now)
+pub name_all-requires : goal.name_all-requires
+name_all-requires g c = subst (All IsStep) (sym c.all_told.ensures) (told_are c.args.self.now)
