@@ -137,11 +137,42 @@ rules_kept b = record { places = b.rule_places; on_lines = b.rules_on_lines; few
 pub holds_kept : (b : Book) → HoldsKept b.tables.holds b.tables.next_hold b.tables.lines
 holds_kept b = record { places = b.hold_places; next_in_range = b.next_hold_in_range; distinct = b.holds_distinct; given = b.holds_given; on_lines = b.holds_on_lines }
 
+-- what every book keeps of its tables
+abbrev pub AllKept : List (Option LineRow) → List (Option Rule) → List (Option HoldRow) → ℕ → ℕ → Type 0
+AllKept lines rules holds next next_hold = record {
+  line_places : length lines ≡ 64;
+  rule_places : length rules ≡ 40;
+  hold_places : length holds ≡ 16;
+  next_in_range : InRange next;
+  next_hold_in_range : InRange next_hold;
+  numbers_distinct : Distinct (λ a. a.number) lines;
+  numbers_given : Given (λ a. a.number) lines next;
+  worded : Worded lines;
+  rules_on_lines : OnLines lines_named rules lines;
+  few_unless : FewUnless rules;
+  holds_on_lines : OnLines (λ h. h.lines) holds lines;
+  holds_distinct : Distinct (λ h. h.number) holds;
+  holds_given : Given (λ h. h.number) holds next_hold;
+}
+
 -- the tables are those of a book
 pub all_kept : (lines : List (Option LineRow)) (rules : List (Option Rule)) (holds : List (Option HoldRow)) (next next_hold : ℕ) → LinesKept lines next → RulesKept rules lines → HoldsKept holds next_hold lines
-    → (length lines ≡ 64) × ((length rules ≡ 40) × ((length holds ≡ 16) × (InRange next × (InRange next_hold × (Distinct (λ a. a.number) lines × (Given (λ a. a.number) lines next × (Worded lines × (OnLines lines_named rules lines × (FewUnless rules × (OnLines (λ h. h.lines) holds lines × (Distinct (λ h. h.number) holds × (Given (λ h. h.number) holds next_hold × Unit {0}))))))))))))
-all_kept lines rules holds next next_hold l r h =
-    (l.places, (r.places, (h.places, (l.next_in_range, (h.next_in_range, (l.distinct, (l.given, (l.worded, (r.on_lines, (r.few_unless, (h.on_lines, (h.distinct, (h.given, tt)))))))))))))
+    → AllKept lines rules holds next next_hold
+all_kept lines rules holds next next_hold l r h = record {
+  line_places = l.places;
+  rule_places = r.places;
+  hold_places = h.places;
+  next_in_range = l.next_in_range;
+  next_hold_in_range = h.next_in_range;
+  numbers_distinct = l.distinct;
+  numbers_given = l.given;
+  worded = l.worded;
+  rules_on_lines = r.on_lines;
+  few_unless = r.few_unless;
+  holds_on_lines = h.on_lines;
+  holds_distinct = h.distinct;
+  holds_given = h.given;
+}
 
 -- ---- other lines below the rules and the holds
 

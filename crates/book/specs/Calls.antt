@@ -143,11 +143,8 @@ SayWords c line before after answer = Answered (words_grounds c line (length bef
 abbrev pub number_at : Contents → ℕ → Option ℕ
 number_at c line = option_map (λ s. s.number) (at c.lines line)
 
--- the line that has this number now, or none; no line has number 0
+-- The line that has this number now, or none. Only one line has it, and no line has number 0.
 pub record Where (c : Contents) (number : ℕ) (answer : Option ℕ) : Type 0 where
   pub here : MatchOption answer ((line : ℕ) → number_at c line ≢ Some number) (λ line. number_at c line ≡ Some number)
+  pub one : (line other : ℕ) → number_at c line ≡ Some number → number_at c other ≡ Some number → line ≡ other
   pub not_zero : number ≡ 0 → answer ≡ None
-
--- no other line has this number
-abbrev pub OneLine : Contents → ℕ → Type 0
-OneLine c number = (line other : ℕ) → number_at c line ≡ Some number → number_at c other ≡ Some number → line ≡ other

@@ -1,6 +1,6 @@
 // What a book answers about itself.
 ghost use Rattle.std.specs.Prelude.{◌≡◌, ℕ, ◌≤◌, Some, Decides};
-ghost use Rattle.book.specs.Calls.{IsHeld, IsNamed, OneLine, SayWords, Where};
+ghost use Rattle.book.specs.Calls.{IsHeld, IsNamed, SayWords, Where};
 ghost use Rattle.book.specs.Rows.{Full, FullOf, GivesLines, union, lines_named, unless_lines, at};
 ghost use Rattle.book.specs.View.{view, said};
 ghost use Rattle.sets.specs.Sets.{Has};
@@ -50,7 +50,7 @@ fn filled<R: Copy>(rows: &[Option<R>], place: usize) -> bool
 
 // Does some row have the line?
 fn any_has<R: OfLines + Copy>(rows: &[Option<R>], line: u32) -> bool
-    ensures { Decides result (Has (union lines rows.now) line) }
+    ensures { Decides result (Has (union R.lines rows.now) line) }
 {
     for row in rows {
         if let Some(one) = row {
@@ -168,8 +168,7 @@ impl Book {
 
     // The line that has this number now, or none.
     pub fn where_is(&self, number: u32) -> Option<u32>
-        ensures here { Where (view self.now) number result }
-        ensures one { OneLine (view self.now) number }
+        ensures { Where (view self.now) number result }
     {
         match place_of(&self.tables.lines, number) {
             Some(line) => Some(line as u32),

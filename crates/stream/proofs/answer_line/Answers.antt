@@ -7,4 +7,4 @@ pub returns : goal.returns
 returns c =
     let given = c.in-Ok.ensures in
     let So = LineAnswer c.args.session.now c.args.line.now c.args.place c.answer.new.self in
-    extended So (vec_items c.args.out.now) c.extend-from-slice.result c.extend-from-slice.ensures.items given.text given.answer (front given.text _ given.bytes given.ends)
+    extended So (vec_items c.args.out.now) c.extend_from_slice.result c.extend_from_slice.ensures.items given.text given.answer (front given.text _ given.bytes given.ends)

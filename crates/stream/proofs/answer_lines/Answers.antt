@@ -8,7 +8,7 @@ loop-end-init c = (omega arith, run_none c.args.input.now c.new-session.result (
 pub loop-end-preserved : goal.loop-end-preserved
 loop-end-preserved c =
     let bounded = c.in-Some.ensures in
-    (omega (arith, bounded.onward), run_more c.args.input.now c.new-session.result c.in-Some.field-0.end c.in-Some.field-0.next c.loop-end.invariant.1 bounded c.in-ok-answer-line.ensures)
+    (omega (arith, bounded.onward), run_more c.args.input.now c.new-session.result c.in-Some.field-0.end c.in-Some.field-0.next c.loop-end.invariant.1 bounded c.in_ok-answer_line.ensures)
 
 pub returns : goal.returns
-returns c = run_all c.args.input.now c.new-session.ensures c.loop-end.invariant.0 c.in-default.ensures c.loop-end.invariant.1
+returns c = run_all c.args.input.now c.new-session.ensures c.loop-end.invariant.0 c.in_default.ensures c.loop-end.invariant.1

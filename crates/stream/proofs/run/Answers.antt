@@ -10,4 +10,4 @@ returns-then-input-gt-LONGEST c =
 pub returns : goal.returns
 returns c =
     let short = c.if-input-gt-LONGEST.false in
-    MatchResult-weaker c.answer-lines.result c.answer-lines.ensures (λ _ done. read_whole c.args.input.now short done) (λ _ u. u)
+    MatchResult-weaker c.answer_lines.result c.answer_lines.ensures (λ _ done. read_whole c.args.input.now short done) (λ _ u. u)

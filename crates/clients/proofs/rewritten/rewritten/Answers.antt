@@ -23,8 +23,8 @@ from e after same step = subst (λ x. Step bare x e after) same step
 after-rule : (c : goal.After-rule) → GoodWords c.args.first.now × (is_ok c.rule.result ≡ true) × (view c.rule.new.self ≡ with_rule (statement 1 c.args.first.now) no_holds 2 1)
 after-rule c =
     let first = c.args.first.now in
-    let answer = Ok c.in-ok-write.field-0 in
-    let new = from (wrote 0 first answer) (view c.write.new.self) c.new-planner.ensures.made c.in-ok-write.ensures.step in
+    let answer = Ok c.in_ok-write.field-0 in
+    let new = from (wrote 0 first answer) (view c.write.new.self) c.new-planner.ensures.made c.in_ok-write.ensures.step in
     let written = write_line None no_holds 1 1 (omega arith) first answer (view c.write.new.self) new in
     let step = from (ruled 0 gives_line c.rule.result) (view c.rule.new.self) written.1 c.rule.ensures.step in
     let given = put_rule (statement 1 first) no_holds 2 1 c.rule.result (view c.rule.new.self) step in
@@ -86,10 +86,10 @@ second-write c answer is =
     let step = from (wrote 0 second answer) (view c.write-2.new.self) before.1 made in
     write_line None line_free 2 2 (omega arith) second answer (view c.write-2.new.self) step
 
-pub returns-in-err-write-2 : goal.returns-in-err-write-2
-returns-in-err-write-2 c =
-    let returned = err_from_is_err_and c.from-residual-in-err-write-2.result c.from-residual-in-err-write-2.ensures.1 in
-    let refused = second-write (goal.at.returns-in-err-write-2 c).After-write-2 (Err c.in-err-write-2.field-0.0) c.in-err-write-2.was in
+pub returns-in_err-write-2 : goal.returns-in_err-write-2
+returns-in_err-write-2 c =
+    let returned = err_from_is_err_and c.from-residual-in_err-write-2.result c.from-residual-in_err-write-2.ensures.1 in
+    let refused = second-write (goal.at.returns-in_err-write-2 c).After-write-2 (Err c.in_err-write-2.field-0.0) c.in_err-write-2.was in
     inr (inr refused.0, rw (returned.1, returned.2) (ap Err refused.1))
 
 -- ---- the nine calls, and the law
@@ -170,7 +170,7 @@ pub returns : goal.returns
 unfolding session
 returns c =
     let point = goal.at.returns c in
-    let written = second-write point.After-write-2 (Ok c.in-ok-write-2.field-0) c.in-ok-write-2.was in
+    let written = second-write point.After-write-2 (Ok c.in_ok-write-2.field-0) c.in_ok-write-2.was in
     let found = one_value c.look.result c.unwrap-found.ensures (look-gone point.After-look) in
     inl (
       _,

@@ -14,9 +14,9 @@ loop-from-init g c =
 pub loop-from-preserved : goal.loop-from-preserved
 loop-from-preserved g c =
     let p = c.args.planner.now in
-    let answer = c.in-ok-found.field-0 in
+    let answer = c.in_ok-found.field-0 in
     let page = c.list.new.page in
-    let step = c.in-ok-found.ensures in
+    let step = c.in_ok-found.ensures in
     let listed = step.1.1 in
     let at = c.loop-from.invariant.2 in
     let cut : answer.count - 0 ≡ answer.count = omega arith in
@@ -31,7 +31,7 @@ loop-from-preserved g c =
 pub loop-from-smaller : goal.loop-from-smaller
 loop-from-smaller g c =
     let p = c.args.planner.now in
-    let listed = c.in-ok-found.ensures.1.1 in
+    let listed = c.in_ok-found.ensures.1.1 in
     let rises = page_rises (g.F.Facts.meaning (facts_of p)) (view p) c.loop-from.from c.loop-from.page _ _ _ (omega arith) (omega arith) listed in
     omega arith
 
@@ -39,6 +39,6 @@ pub returns : goal.returns
 returns g c =
     let p = c.args.planner.now in
     let at = c.loop-from.invariant.2 in (
-      (c.in-ok-stands.ensures.1.0.0, (omega arith, tt)),
+      (c.in_ok-stands.ensures.1.0.0, (omega arith, tt)),
       to_all (g.F.Facts.meaning (facts_of p)) (view p) c.guesses-total.ensures.lines c.args.menus.now c.loop-from.menus c.loop-from.count c.loop-from.from (omega arith) (omega arith) at,
     )

@@ -6,11 +6,11 @@ use Rattle.script.proofs.request.lines.Goals as goal
 pub loop-item-init : goal.loop-item-init
 loop-item-init c = nothing_read c.args.field.now
 
-pub returns-in-err-line : goal.returns-in-err-line
-returns-in-err-line c = rw c.from-residual.ensures (only_empty c.args.field.now (λ n ns r e.
+pub returns-in_err-line : goal.returns-in_err-line
+returns-in_err-line c = rw c.from-residual.ensures (only_empty c.args.field.now (λ n ns r e.
     let f = first_left _ _ _ _ _ _ c.loop-item.invariant c.in-Some.ensures n ns r e in
     let low = rising_le (f.0 + 1) (f.1 ∷ f.2) 64 f.3.1 in
-    c.in-err-line.ensures f.0 f.3.0 (omega arith) f.4))
+    c.in_err-line.ensures f.0 f.3.0 (omega arith) f.4))
 
 pub loop-item-smaller : goal.loop-item-smaller
 loop-item-smaller c =
@@ -19,18 +19,18 @@ loop-item-smaller c =
 
 pub loop-item-preserved : goal.loop-item-preserved
 loop-item-preserved c =
-    let line = c.in-ok-line.ensures in
+    let line = c.in_ok-line.ensures in
     let w = c.with-lines.ensures in
     one_more _ _ _ _ _ _ _ _ c.loop-item.invariant c.in-Some.ensures line.0 line.1 line.2
     record { old = w.old; new = w.new line.1; only = w.only } (omega arith)
 
-pub returns-in-err-last : goal.returns-in-err-last
-returns-in-err-last c = rw c.from-residual-in-err-last.ensures (only_empty c.args.field.now (λ n ns r e.
-    let l = last_left _ _ _ _ c.loop-item.invariant c.in-default.ensures n ns r e in
-    c.in-err-last.ensures l.0 l.1 l.2 l.3))
+pub returns-in_err-last : goal.returns-in_err-last
+returns-in_err-last c = rw c.from-residual-in_err-last.ensures (only_empty c.args.field.now (λ n ns r e.
+    let l = last_left _ _ _ _ c.loop-item.invariant c.in_default.ensures n ns r e in
+    c.in_err-last.ensures l.0 l.1 l.2 l.3))
 
 pub returns : goal.returns
 returns c =
-    let line = c.in-ok-last.ensures in
+    let line = c.in_ok-last.ensures in
     let w = c.with.ensures in
     (omega arith, all_read _ _ _ _ _ _ c.loop-item.invariant line.0 line.1 line.2 record { old = w.old; new = w.new line.1; only = w.only })

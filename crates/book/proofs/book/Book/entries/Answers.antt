@@ -9,7 +9,7 @@ use Rattle.book.specs.View.{view}
 use Rattle.book.proofs.Words.{number_given}
 use Rattle.book.proofs.Saving.{Gathered, gathered_none, gathered_few, gathered_more, gathered_same, gathered_all}
 use Rattle.book.proofs.book.Book.entries.Goals as goal
-use Rattle.book.proofs.book.Book.entries.Goals.{then-has+in-Some, then-has+in-default, else-has}
+use Rattle.book.proofs.book.Book.entries.Goals.{then-has+in-Some, then-has+in_default, else-has}
 
 pub loop-line-init : goal.loop-line-init
 loop-line-init c = subst (Gathered (view c.args.self.now) c.args.lines 0) (sym c.new-entries.ensures) (gathered_none (view c.args.self.now) c.args.lines)
@@ -35,8 +35,8 @@ loop-line-preserved c =
           let added = pushed es _ (listed w.push.new.self) w.push.result few w.push.ensures in
           let more = gathered_more (view b) lines line es so (record { line = line; number = row.number }) (omega arith) refl (c.has.ensures.0 w.if-has.true) numbered (number_given b line row.number numbered) in
           is w.push.new.self w.entries-is (subst (Gathered (view b) lines (line + 1)) (sym added) more)
-      | then-has+in-default w ↦
-          is c.loop-line.entries w.entries-is (gathered_same (view b) lines line es so (λ has n e. no_some (ap (option_map (λ s. s.number)) w.in-default.ensures.said ∙ e)))
+      | then-has+in_default w ↦
+          is c.loop-line.entries w.entries-is (gathered_same (view b) lines line es so (λ has n e. no_some (ap (option_map (λ s. s.number)) w.in_default.ensures.said ∙ e)))
       | else-has w ↦
           is c.loop-line.entries w.entries-is (gathered_same (view b) lines line es so (λ has. absurd (not_from_Decides c.has.result c.has.ensures w.if-has.false has)))
     ]

@@ -7,9 +7,9 @@ use Rattle.book.proofs.Tables.{full_map, union_at}
 use Rattle.book.proofs.Holding.{out_none, out_found}
 use Rattle.book.proofs.book.Book.held.Goals as goal
 
-pub returns-in-default : goal.returns-in-default
-returns-in-default c =
-    record { lines = ap (option_map (λ h. h.lines)) (sym (out_none c.args.self.now.tables.holds c.args.number c.in-default.ensures)); written = λ lines n e. absurd (no_some e) }
+pub returns-in_default : goal.returns-in_default
+returns-in_default c =
+    record { lines = ap (option_map (λ h. h.lines)) (sym (out_none c.args.self.now.tables.holds c.args.number c.in_default.ensures)); written = λ lines n e. absurd (no_some e) }
 
 pub returns-in-Some-row : goal.returns-in-Some-row
 returns-in-Some-row c =

@@ -6,9 +6,9 @@ use Rattle.book.specs.declared.rows.HoldRow.{HoldRow}
 use Rattle.book.proofs.Keeping.{all_kept, distinct_none, each_none}
 use Rattle.book.proofs.book.Book.new.Goals as goal
 
-pub invariant-of-result : goal.invariant-of-result
+pub invariant_of-result : goal.invariant_of-result
 unfolding ones ones_in
-invariant-of-result c =
+invariant_of-result c =
     all_kept (replicate 64 None) (replicate 40 None) (replicate 16 None) 1 1
     (record {
       places = refl;

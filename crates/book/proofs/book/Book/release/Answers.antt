@@ -6,11 +6,11 @@ use Rattle.book.proofs.Tables.{not_full}
 use Rattle.book.proofs.Holding.{out_none, out_found, seen_returned}
 use Rattle.book.proofs.book.Book.release.Goals as goal
 
-pub returns-in-default : goal.returns-in-default
-returns-in-default c = (λ out. not_full {X = Held} (None ∷ []) 0 refl (sym (ap is_some (out_none c.args.self.now.tables.holds c.args.number c.in-default.ensures)) ∙ out), refl)
+pub returns-in_default : goal.returns-in_default
+returns-in_default c = (λ out. not_full {X = Held} (None ∷ []) 0 refl (sym (ap is_some (out_none c.args.self.now.tables.holds c.args.number c.in_default.ensures)) ∙ out), refl)
 
-pub invariant-of-self : goal.invariant-of-self
-invariant-of-self c =
+pub invariant_of-self : goal.invariant_of-self
+invariant_of-self c =
     let b = c.args.self.now in
     let t = b.tables in
     let k = c.in-Some.place in

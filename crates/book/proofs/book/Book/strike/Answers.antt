@@ -5,13 +5,13 @@ use Rattle.sets.specs.Sets.{Has}
 use Rattle.book.proofs.Keeping.{distinct_cleared, each_cleared, full_cleared, all_kept, rules_kept, holds_kept, rules_relined, holds_relined, held_from, seen_struck}
 use Rattle.book.proofs.book.Book.strike.Goals as goal
 
-pub invariant-of-self : goal.invariant-of-self
-invariant-of-self g c =
+pub invariant_of-self : goal.invariant_of-self
+invariant_of-self g c =
     let b = c.args.self.now in
     let t = b.tables in
     let k = c.args.line in
-    let free = not_from_Decides c.is-named.result c.is-named.ensures c.if-is-named.false in
-    let loose = not_from_Decides c.is-held.result c.is-held.ensures c.if-is-held.false in
+    let free = not_from_Decides c.is_named.result c.is_named.ensures c.if-is_named.false in
+    let loose = not_from_Decides c.is_held.result c.is_held.ensures c.if-is_held.false in
     all_kept _ _ _ _ _
     (record {
       places = length-set t.lines k None ∙ b.line_places;
@@ -30,10 +30,10 @@ returns g c =
       (
         omega arith,
         (
-          (λ empty. empty (c.has-statement.ensures.0 c.if-not-has-statement.false)),
+          (λ empty. empty (c.has_statement.ensures.0 c.if-not-has_statement.false)),
           (
-            not_from_Decides c.is-held.result c.is-held.ensures c.if-is-held.false,
-            (⊎_elim (not_from_Decides c.is-named.result c.is-named.ensures c.if-is-named.false) (λ h. named (subst (λ s. Has s line) (sym c.names.ensures) h)), tt),
+            not_from_Decides c.is_held.result c.is_held.ensures c.if-is_held.false,
+            (⊎_elim (not_from_Decides c.is_named.result c.is_named.ensures c.if-is_named.false) (λ h. named (subst (λ s. Has s line) (sym c.names.ensures) h)), tt),
           ),
         ),
       ),

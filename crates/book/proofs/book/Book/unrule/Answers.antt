@@ -4,8 +4,8 @@ use Rattle.book.specs.Rows.{lines_named}
 use Rattle.book.proofs.Keeping.{all_kept, lines_kept, holds_kept, on_lines_cleared, few_cleared}
 use Rattle.book.proofs.book.Book.unrule.Goals as goal
 
-pub invariant-of-self : goal.invariant-of-self
-invariant-of-self c =
+pub invariant_of-self : goal.invariant_of-self
+invariant_of-self c =
     let b = c.args.self.now in
     let t = b.tables in
     let k = c.args.place in

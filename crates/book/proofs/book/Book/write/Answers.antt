@@ -4,8 +4,8 @@ use Rattle.std.proofs.lemmas.Bool.Decides.{not_from_Decides}
 use Rattle.book.proofs.Keeping.{distinct_written, given_written, each_written, full_written, all_kept, rules_kept, holds_kept, rules_relined, holds_relined, seen_written}
 use Rattle.book.proofs.book.Book.write.Goals as goal
 
-pub invariant-of-self : goal.invariant-of-self
-invariant-of-self c =
+pub invariant_of-self : goal.invariant_of-self
+invariant_of-self c =
     let b = c.args.self.now in
     let t = b.tables in
     let k = c.args.line in
@@ -27,6 +27,6 @@ returns c =
     let t = b.tables in
     let k = c.args.line in
     let few = (c.good.ensures.0 c.if-not-good.false).few in (
-      (omega arith, (not_from_Decides c.has-statement.result c.has-statement.ensures c.if-has-statement.false, ((λ bad. bad (c.good.ensures.0 c.if-not-good.false)), (omega arith, tt)))),
+      (omega arith, (not_from_Decides c.has_statement.result c.has_statement.ensures c.if-has_statement.false, ((λ bad. bad (c.good.ensures.0 c.if-not-good.false)), (omega arith, tt)))),
       (refl, seen_written t k (t.next + 1) _ c.args.words.now (c.padded.ensures few)),
     )

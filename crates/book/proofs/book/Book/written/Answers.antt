@@ -6,4 +6,4 @@ use Rattle.book.proofs.book.Book.written.Goals as goal
 pub returns : goal.returns
 returns c n =
     let same = full_map said c.args.self.now.tables.lines n in
-    (λ h. same ∙ (c.all-written.ensures n).0 h, λ full. (c.all-written.ensures n).1 (sym same ∙ full))
+    (λ h. same ∙ (c.all_written.ensures n).0 h, λ full. (c.all_written.ensures n).1 (sym same ∙ full))

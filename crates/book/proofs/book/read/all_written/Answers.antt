@@ -3,7 +3,7 @@ use Rattle.sets.proofs.Lines.{none_has}
 use Rattle.book.specs.Rows.{Full}
 use Rattle.book.proofs.Tables.{FullBelow, full_more, full_same, full_below}
 use Rattle.book.proofs.book.read.all_written.Goals as goal
-use Rattle.book.proofs.book.read.all_written.Goals.{in-Some, in-default}
+use Rattle.book.proofs.book.read.all_written.Goals.{in-Some, in_default}
 
 pub loop-line-init : goal.loop-line-init
 loop-line-init c n = (λ h. absurd (none_has n h), λ h. absurd (omega (arith, h.0)))
@@ -16,7 +16,7 @@ loop-line-preserved c =
       | in-Some w ↦
           subst (FullBelow rows (line + 1)) (sym w.written-is)
           (full_more rows line c.loop-line.written c.loop-line.invariant w.with-written.result (ap is_some w.in-Some.is) w.with-written.ensures.old (w.with-written.ensures.new (omega arith)) w.with-written.ensures.only)
-      | in-default w ↦ subst (FullBelow rows (line + 1)) (sym w.written-is) (full_same rows line c.loop-line.written c.loop-line.invariant w.in-default.is)
+      | in_default w ↦ subst (FullBelow rows (line + 1)) (sym w.written-is) (full_same rows line c.loop-line.written c.loop-line.invariant w.in_default.is)
     ]
 
 pub returns : goal.returns

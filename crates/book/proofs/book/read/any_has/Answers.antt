@@ -6,7 +6,7 @@ use Rattle.sets.proofs.Lines.{none_has, or_has}
 use Rattle.book.specs.Rows.{union}
 use Rattle.book.proofs.Tables.{union_at, union_more}
 use Rattle.book.proofs.book.read.any_has.Goals as goal
-use Rattle.book.proofs.book.read.any_has.Goals.{in-Some+else-has, in-default}
+use Rattle.book.proofs.book.read.any_has.Goals.{in-Some+else-has, in_default}
 
 pub returns-then-has : goal.returns-then-has
 returns-then-has g c =
@@ -27,7 +27,7 @@ loop-row-preserved g c h =
           ⊎_elim (λ k. absurd (not_from_Decides w.has.result w.has.ensures w.if-has.false k)) (λ k. k)
           (or_has (lines w.in-Some.one) (union lines (drop (i + 1) rows)) line
           (subst (λ s. Has s line) (union_more lines rows i (Some w.in-Some.one) c.loop-row-test.true (read ∙ w.in-Some.is)) (c.loop-row.invariant h)))
-      | in-default w ↦ subst (λ s. Has s line) (union_more lines rows i None c.loop-row-test.true (read ∙ w.in-default.is)) (c.loop-row.invariant h)
+      | in_default w ↦ subst (λ s. Has s line) (union_more lines rows i None c.loop-row-test.true (read ∙ w.in_default.is)) (c.loop-row.invariant h)
     ]
 
 pub returns : goal.returns

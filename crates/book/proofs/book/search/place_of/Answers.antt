@@ -5,7 +5,7 @@ use Rattle.book.specs.Rows.{at}
 use Rattle.sets.proofs.Rows.{no_some, some_same}
 use Rattle.book.proofs.Tables.{full_below, full_from_number}
 use Rattle.book.proofs.book.search.place_of.Goals as goal
-use Rattle.book.proofs.book.search.place_of.Goals.{in-Some+else-number, in-default}
+use Rattle.book.proofs.book.search.place_of.Goals.{in-Some+else-number, in_default}
 
 pub returns-then-number : goal.returns-then-number
 returns-then-number g c =
@@ -22,7 +22,7 @@ loop-i-preserved g c =
     below_more _ _ c.loop-i.invariant
     (λ e. elim c.match-row.branch [
       | in-Some+else-number w ↦ w.if-number.false (w.number.ensures ∙ some_same (sym (ap (option_map numbered) (read ∙ w.in-Some.is)) ∙ e))
-      | in-default w ↦ no_some (sym (ap (option_map numbered) (read ∙ w.in-default.is)) ∙ e)
+      | in_default w ↦ no_some (sym (ap (option_map numbered) (read ∙ w.in_default.is)) ∙ e)
     ])
 
 pub returns : goal.returns

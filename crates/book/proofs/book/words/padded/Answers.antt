@@ -1,12 +1,12 @@
 use Rattle.std.proofs.Common.{◌≡◌, length, get_or, ap, ◌∙◌, arith, length-set, take_all}
 use Rattle.std.proofs.lemmas.List.{take_more, take_more_set}
 use Rattle.book.proofs.book.words.padded.Goals as goal
-use Rattle.book.proofs.book.words.padded.Goals.{then-i-lt-MOST-BYTES, else-i-lt-MOST-BYTES}
+use Rattle.book.proofs.book.words.padded.Goals.{then-i-lt-MOST_BYTES, else-i-lt-MOST_BYTES}
 
 pub loop-i-preserved : goal.loop-i-preserved
 loop-i-preserved c =
-    elim c.if-i-lt-MOST-BYTES.branch [
-      | then-i-lt-MOST-BYTES w ↦ (
+    elim c.if-i-lt-MOST_BYTES.branch [
+      | then-i-lt-MOST_BYTES w ↦ (
         ap length w.bytes-is ∙ simp length-set c.loop-i.invariant.0,
         λ few.
             let before = c.loop-i.invariant.1 (omega arith) in
@@ -14,7 +14,7 @@ loop-i-preserved c =
             let written = take_more_set c.loop-i.bytes c.loop-i.i (get_or c.args.words.now c.loop-i.i 0) (omega arith) in
             cc,
       )
-      | else-i-lt-MOST-BYTES w ↦ (ap length w.bytes-is ∙ c.loop-i.invariant.0, λ few. absurd (omega arith))
+      | else-i-lt-MOST_BYTES w ↦ (ap length w.bytes-is ∙ c.loop-i.invariant.0, λ few. absurd (omega arith))
     ]
 
 pub returns : goal.returns

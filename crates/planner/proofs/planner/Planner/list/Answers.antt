@@ -13,13 +13,13 @@ returns g c =
     let p = c.args.self.now in
     let m = g.F.Facts.meaning p.facts in
     let from = c.args.from in
-    let lines = subst IsLines c.unless_lines.ensures c.unless_lines.type-inv in
+    let lines = subst IsLines c.unless_lines.ensures c.unless_lines.type_inv in
     let stopped =
     subst₃ (λ rules unless total. Stopped (Found m rules unless) from total c.args.page.now c.read.new.page c.read.result.count c.read.result.next)
     c.rules.ensures.same c.unless_lines.ensures c.guesses-total.ensures.count c.read.ensures in (
       refl,
       (
-        (not_from_Decides c.facts-name-empty.result c.facts-name-empty.ensures c.if-facts-name-empty.false, (omega (arith, c.guesses-total.ensures.count), tt)),
+        (not_from_Decides c.facts_name_empty.result c.facts_name_empty.ensures c.if-facts_name_empty.false, (omega (arith, c.guesses-total.ensures.count), tt)),
         page_from m (view p) lines from c.args.page.now c.read.new.page c.read.result.count c.read.result.next stopped,
       ),
     )

@@ -6,7 +6,7 @@ use Rattle.laws.specs.World.{Parted}
 use Rattle.planner.specs.View.{view}
 use Rattle.planner.proofs.Parting.{parted_none, parted_now, parted_gone, rising_below}
 use Rattle.planner.proofs.planner.Planner.part.Goals as goal
-use Rattle.planner.proofs.planner.Planner.part.Goals.{then-has-now, else-has-now}
+use Rattle.planner.proofs.planner.Planner.part.Goals.{then-has_now, else-has_now}
 
 pub loop-entry-init : goal.loop-entry-init
 loop-entry-init g c = parted_none (view c.args.self.now).book
@@ -19,13 +19,13 @@ loop-entry-preserved g c =
     let e = get_or es i (record { line = 0; number = 0 }) in
     let below = rising_below 0 es i (record { line = 0; number = 0 }) c.requires c.loop-entry-test.true in
     let more = take_more es i (record { line = 0; number = 0 }) c.loop-entry-test.true in
-    elim c.if-has-now.branch [
-      | then-has-now w ↦
+    elim c.if-has_now.branch [
+      | then-has_now w ↦
           let added = w.with-current.ensures in
-          subst₃ (Parted book) (sym more) (sym w.current-is) (sym w.gone-is) (parted_now book (take i es) e _ _ c.loop-entry.invariant _ (added.old, added.new below, added.only) (c.has-now.ensures.0 w.if-has-now.true))
-      | else-has-now w ↦
+          subst₃ (Parted book) (sym more) (sym w.current-is) (sym w.gone-is) (parted_now book (take i es) e _ _ c.loop-entry.invariant _ (added.old, added.new below, added.only) (c.has_now.ensures.0 w.if-has_now.true))
+      | else-has_now w ↦
           let added = w.with-gone.ensures in
-          subst₃ (Parted book) (sym more) (sym w.current-is) (sym w.gone-is) (parted_gone book (take i es) e _ _ c.loop-entry.invariant _ (added.old, added.new below, added.only) (not_from_Decides c.has-now.result c.has-now.ensures w.if-has-now.false))
+          subst₃ (Parted book) (sym more) (sym w.current-is) (sym w.gone-is) (parted_gone book (take i es) e _ _ c.loop-entry.invariant _ (added.old, added.new below, added.only) (not_from_Decides c.has_now.result c.has_now.ensures w.if-has_now.false))
     ]
 
 pub returns : goal.returns

@@ -14,7 +14,7 @@ returns g c =
     let decides = Decides-eqb c.close-least.result set in (
       refl,
       (
-        (not_from_Decides c.facts-name-empty.result c.facts-name-empty.ensures c.if-facts-name-empty.false, tt),
+        (not_from_Decides c.facts_name_empty.result c.facts_name_empty.ensures c.if-facts_name_empty.false, tt),
         (λ yes. subst (Smallest (Closed m _ set)) (decides.0 yes) least, λ menu. decides.1 (smallest_same (Closed m _ set) c.close-least.result set least menu)),
       ),
     )

@@ -25,14 +25,14 @@ returns-in-Planning c =
     let P : State → Type 0 = λ s. Asks c.args.self.now.number s c.args.place c.args.request (Planning after) said.text in
     record { text = said.text; so = (refl, subst P (sym was) (after, said.so, refl)); short = said.short; wrote = said.wrote }
 
-pub returns-in-default : goal.returns-in-default
-returns-in-default c =
-    let said = c.plan-end-in-default.ensures in
-    let after = c.plan-end-in-default.new.planner in
+pub returns-in_default : goal.returns-in_default
+returns-in_default c =
+    let said = c.plan-end-in_default.ensures in
+    let after = c.plan-end-in_default.new.planner in
     let was = sym c.replace.ensures.value ∙ c.in-Collecting.is in
     let number = c.args.self.now.number in
     let P : State → Type 0 = λ s. Asks number s c.args.place c.args.request (Planning after) said.text in
     let starts : Starts number c.in-Collecting.steps c.args.place c.args.request (Planning after) said.text =
     record { fresh = c.new-planner.result; planner = after; made = (c.new-planner.ensures.made, c.new-planner.ensures.facts); asked = said.so; state = refl } in
-    let asks = asks_first number c.in-Collecting.steps c.args.place c.args.request (Planning after) said.text c.in-default.not-Step starts in
+    let asks = asks_first number c.in-Collecting.steps c.args.place c.args.request (Planning after) said.text c.in_default.not-Step starts in
     record { text = said.text; so = (refl, subst P (sym was) asks); short = said.short; wrote = said.wrote }
