@@ -9,5 +9,5 @@ returns c =
       right_version = search rules;
       right_count = search rules;
       rest_is = take_rest c.args.bytes.now 4;
-      low = omega (arith, c.type-inv.bytes 1);
+      low = omega (arith, c.type_inv.bytes 1);
     }

@@ -11,15 +11,15 @@ use Rattle.record.proofs.Layouts.{entry_first}
 use Rattle.record.proofs.Reading.{pushed, back_from, exact_from, entry_more, length_left, faulty_here, all_read}
 use Rattle.record.proofs.read.read.Goals as goal
 
-pub returns-in-err-rest : goal.returns-in-err-rest
-returns-in-err-rest c =
-    let p = err_from_is_err_and c.from-residual.result c.from-residual.ensures.1 in
-    let one : Reads c.args.next c.args.bytes.now c.from-residual.result = rw (p.1, p.2) (c.in-err-rest.ensures c.args.next) in
-    record { one = one; back = back_from c.args.next c.args.bytes.now c.from-residual.result one; exact = exact_from c.args.next c.args.bytes.now c.from-residual.result one }
+pub returns-in_err-rest : goal.returns-in_err-rest
+returns-in_err-rest c =
+    let p = err_from_is_err_and c.from_residual.result c.from_residual.ensures.1 in
+    let one : Reads c.args.next c.args.bytes.now c.from_residual.result = rw (p.1, p.2) (c.in_err-rest.ensures c.args.next) in
+    record { one = one; back = back_from c.args.next c.args.bytes.now c.from_residual.result one; exact = exact_from c.args.next c.args.bytes.now c.from_residual.result one }
 
-pub overflow-sub-result : goal.overflow-sub-result
-overflow-sub-result c =
-    let o = c.in-ok-rest.ensures in
+pub overflow_sub-result : goal.overflow_sub-result
+overflow_sub-result c =
+    let o = c.in_ok-rest.ensures in
     omega (arith, length_left c.args.bytes.now c.loop-rest.rest.now (listed c.loop-rest.entries) c.loop-rest.invariant.0 o.right_length.0)
 
 -- the entry that the code makes of the next three bytes
@@ -32,7 +32,7 @@ returns-then-not-fits c =
     let rest = c.loop-rest.rest.now in
     let es = listed c.loop-rest.entries in
     let e = entry_of c.from.result c.value.result in
-    let o = c.in-ok-rest.ensures in
+    let o = c.in_ok-rest.ensures in
     let first = entry_first rest e (omega (arith, ltb-false)) c.from.ensures c.value.ensures (omega arith) in
     let unfit : Fit c.args.next (after 0 es) e → ⊥ = λ fit.
     let turned = c.if-not-fits.ensures.1 (subst (λ least. Fit c.args.next least e) (sym c.loop-rest.invariant.2) fit) in
@@ -65,6 +65,6 @@ pub returns : goal.returns
 returns c =
     let bytes = c.args.bytes.now in
     let es = listed c.loop-rest.entries in
-    let all = all_read bytes c.loop-rest.rest.now _ es c.in-ok-rest.ensures c.loop-rest.invariant.0 (omega (arith, ltb-true)) in
+    let all = all_read bytes c.loop-rest.rest.now _ es c.in_ok-rest.ensures c.loop-rest.invariant.0 (omega (arith, ltb-true)) in
     let one : Reads c.args.next bytes (Ok c.loop-rest.entries) = (c.loop-rest.invariant.1, all) in
     record { one = one; back = back_from c.args.next bytes (Ok c.loop-rest.entries) one; exact = exact_from c.args.next bytes (Ok c.loop-rest.entries) one }

@@ -23,8 +23,8 @@ pub returns : goal.returns
 returns c =
     let es = c.args.entries.now in
     let b = c.args.buffer.now in
-    let a = c.put-entries.new.buffer in
+    let a = c.put_entries.new.buffer in
     let n = front_bytes + entry_bytes * length es in
     let w : Writes es b a (Some n) =
-    (c.if-not-storable.ensures.0 refl, omega (arith, length_layouts es), omega arith, written edition es b c.put-front.new.buffer a c.put-front.ensures c.put-entries.ensures) in
+    (c.if-not-storable.ensures.0 refl, omega (arith, length_layouts es), omega arith, written edition es b c.put_front.new.buffer a c.put_front.ensures c.put_entries.ensures) in
     record { examples = (refl, refl); writes = w; good = good_written es b a (Some n) w }
