@@ -1,14 +1,18 @@
 -- A full reading on its way: one page more.
-use Rattle.std.proofs.Common.{◌≡◌, ℕ, zero, suc, ◌+◌, ◌<◌, ◌≤◌, List, [], ◌∷◌, ◌++◌, map, length, take, drop, set, Ok, sym, refl, ap, ◌∙◌, arith}
-use Rattle.std.proofs.lemmas.List.{append-nil, append_assoc, length_push, length-set, length-take-le, take_more_set, drop-set-lt, drop-drop}
+use Rattle.std.proofs.Common.{◌≡◌, ℕ, zero, suc, ◌+◌, ◌<◌, ◌≤◌, List, [], ◌∷◌, ◌++◌, map, length, get_or, take, drop, set, Ok, sym, refl, ap, ◌∙◌, subst, subst₂, arith}
+use Rattle.std.proofs.Math.ListN.{get_or-append}
+use Rattle.std.proofs.lemmas.List.{get_or-take, get_or-append-add, append-nil, append_assoc, length_push, length-set, length-take-le, take_more_set, drop-set-lt, drop-drop}
 use Rattle.sets.specs.Sets.{IsLines}
 use Rattle.facts.specs.Meaning.{Meaning}
-use Rattle.laws.specs.World.{World, Event, Step, rules_of, guesses, guessed_of, listed}
+use Rattle.laws.specs.Menus.{Before}
+use Rattle.laws.specs.Law.{ExactlyMenus}
+use Rattle.laws.specs.World.{World, Event, Step, Offers, rules_of, guesses, guessed_of, listed}
 use Rattle.laws.specs.Runs.{Call, change, nothing}
 use Rattle.laws.specs.declared.listing.Listing.{Listing}
 use Rattle.laws.proofs.ReadingParts.{Stretch, page_stretch, stretch_none, stretch_join, stretch_all}
 use Rattle.laws.proofs.Readings.{later, run_join, calls_join, chained_join, pages_join}
-use Rattle.planner.specs.Complete.{Added, Read, Complete}
+use Rattle.planner.specs.Complete.{Added, Read, ByLists, Complete}
+use Rattle.planner.specs.Tries.{Appended}
 
 -- ---- sets behind the places filled
 
@@ -32,6 +36,37 @@ module _ (before : List ℕ) (count : ℕ) where
     front = take_more_set after r x room ∙ ap (λ front. front ++ x ∷ []) at.front ∙ append_assoc (take count before) sets (x ∷ []);
     stays = drop-set-lt (r + 1) after r x (omega arith) ∙ drop_later r 1 after before at.stays;
   }
+
+-- place by place
+pub appended_from_added : (before : List ℕ) (count : ℕ) (sets after : List ℕ) (r : ℕ) → count + length sets ≤ length before → Added before count sets after r → Appended before count sets (length sets) after r
+appended_from_added before count sets after r room at = record {
+  filled = at.filled;
+  same_length = at.same_length;
+  old = λ i lt. front i (omega (arith, at.filled)) ∙ get_or-append (take count before) sets 0 i (omega (arith, long)) ∙ get_or-take count before i 0 lt;
+  new = λ j lt. front (count + j) (omega (arith, at.filled)) ∙ ap (λ n. get_or (take count before ++ sets) (n + j) 0) (sym long) ∙ get_or-append-add (take count before) sets j 0;
+  stays = subst (λ n. drop n after ≡ drop n before) at.filled at.stays;
+}
+  where
+    long : length (take count before) ≡ count
+    long = length-take-le count before (omega arith)
+
+    front : (i : ℕ) → i < r → get_or after i 0 ≡ get_or (take count before ++ sets) i 0
+    front i lt = sym (get_or-take r after i 0 lt) ∙ ap (λ xs. get_or xs i 0) at.front
+
+-- the front places that are exactly the menus, told of the whole buffer
+pub complete_from : (m : Meaning) (w : World) (before after : List ℕ) (count : ℕ) → count ≤ length before → length after ≡ length before → drop count after ≡ drop count before
+    → ExactlyMenus m (rules_of w) (take count after) → Complete m w before after count
+complete_from m w before after count fits same stays menus = record {
+  each = λ i lt. subst (Offers m w) (get_or-take count after i 0 lt) (menus.each i (omega (arith, long)));
+  every = λ s offered. let at = menus.every s offered in let lt : at.0 < count = omega (arith, long, at.1) in (at.0, lt, sym (get_or-take count after at.0 0 lt) ∙ at.2);
+  ordered = λ i j lt end. subst₂ (Before (guessed_of w)) (get_or-take count after i 0 (omega arith)) (get_or-take count after j 0 end) (menus.ordered i j lt (omega (arith, long)));
+  fits = fits;
+  same_length = same;
+  stays = stays;
+}
+  where
+    long : length (take count after) ≡ count
+    long = length-take-le count after (omega arith)
 
 -- ---- the lists made
 
@@ -97,11 +132,8 @@ module _ (m : Meaning) (w : World) (lines : IsLines (guessed_of w)) (before : Li
       }
 
   -- read to the end
-  pub to_all : (after : List ℕ) (count from : ℕ) → from ≡ guesses w → count ≤ length before → ReadTo m w before after count from → Complete m w before after count
-  to_all after count from end fits at = record {
+  pub to_all : (after : List ℕ) (count from : ℕ) → from ≡ guesses w → ReadTo m w before after count from → ByLists m w after count
+  to_all after count from end at = record {
     exactly_menus = stretch_all m (rules_of w) lines (take count after) (rw end at at.stretch);
     reading = rw end at at.reading;
-    fits = fits;
-    same_length = at.same_length;
-    stays = at.stays;
   }

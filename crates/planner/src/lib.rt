@@ -6,4 +6,5 @@ pub mod reading;
 mod tries;
 
 pub use crate::planner::{HandedBack, Hold, Planner};
+pub use laws::listing;
 pub use laws::listing::Listing;

@@ -1,6 +1,5 @@
 // The planner, and its calls.
 ghost use Rattle.std.specs.Prelude.{◌≡◌, ◌≤◌, Decides};
-ghost use Rattle.book.specs.Calls.{OneLine};
 ghost use Rattle.book.specs.Rows.{GivesLines};
 ghost use Rattle.laws.specs.Law.{Law};
 ghost use Rattle.laws.specs.Laws.{Found, MenuLaws};
@@ -109,8 +108,7 @@ impl<F: Facts> Planner<F> {
 
     // The line that has this number now, or none.
     pub fn where_is(&self, number: u32) -> Option<u32>
-        ensures step { Step (F.Facts.meaning (facts_of self.now)) (view self.now) (sought number result) (view self.now) }
-        ensures one { OneLine (view self.now).book number }
+        ensures { Step (F.Facts.meaning (facts_of self.now)) (view self.now) (sought number result) (view self.now) }
     {
         self.book.where_is(number)
     }

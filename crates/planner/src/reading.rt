@@ -1,6 +1,7 @@
 // A full reading: every menu, by lists on a small page.
 ghost use Rattle.std.specs.Prelude.{◌+◌, ◌≤◌, length};
-ghost use Rattle.planner.specs.Complete.{Added, ReadAll};
+ghost use Rattle.planner.specs.Complete.{Added, ReadAll, ReadByLists};
+ghost use Rattle.planner.specs.Tries.{Appended};
 ghost use Rattle.planner.specs.View.{view, facts_of};
 
 use crate::planner::Planner;
@@ -14,7 +15,8 @@ const PLACES: usize = 3;
 
 // Adds the sets behind the places filled, and answers how many are filled then.
 fn append(menus: &mut [u64], count: usize, found: &[u64]) -> usize
-    ensures { count + length found.now ≤ length menus.old → Added menus.old count found.now menus.new result }
+    ensures appended { count + length found.now ≤ length menus.old → Appended menus.old count found.now (length found.now) menus.new result }
+    ensures added { count + length found.now ≤ length menus.old → Added menus.old count found.now menus.new result }
 {
     let mut filled = count;
     for set in found {
@@ -25,7 +27,8 @@ fn append(menus: &mut [u64], count: usize, found: &[u64]) -> usize
 
 // Reads every menu into the buffer, in order, and answers how many there are.
 pub fn full_reading<F: Facts>(planner: &Planner<F>, menus: &mut [u64]) -> Result<usize, Refusal>
-    ensures { ReadAll (F.Facts.meaning (facts_of planner.now)) (view planner.now) menus.old menus.new result }
+    ensures all { ReadAll (F.Facts.meaning (facts_of planner.now)) (view planner.now) menus.old menus.new result }
+    ensures lists { ReadByLists (F.Facts.meaning (facts_of planner.now)) (view planner.now) menus.new result }
 {
     // refused where the facts name an empty line, before anything is written
     planner.stands(0)?;

@@ -3,7 +3,7 @@ use Rattle.std.proofs.lemmas.List.{length-take-le}
 use Rattle.laws.proofs.ReadingParts.{page_rises}
 use Rattle.planner.specs.Complete.{Added}
 use Rattle.planner.specs.View.{view, facts_of}
-use Rattle.planner.proofs.FullReading.{to_none, to_more, to_all}
+use Rattle.planner.proofs.FullReading.{to_none, to_more, to_all, complete_from}
 use Rattle.planner.proofs.reading.full_reading.Goals as goal
 
 pub loop-from-init : goal.loop-from-init
@@ -21,7 +21,7 @@ loop-from-preserved g c =
     let at = c.loop-from.invariant.2 in
     let cut : answer.count - 0 ≡ answer.count = omega arith in
     let long : length (take answer.count page) ≡ answer.count = length-take-le answer.count page (omega arith) in
-    let added = subst (λ n. Added c.loop-from.menus c.loop-from.count (take n page) c.append-count.new.menus c.append-count.result) cut (c.append-count.ensures (omega (arith, ap (λ n. length (take n page)) cut))) in (
+    let added = subst (λ n. Added c.loop-from.menus c.loop-from.count (take n page) c.append-count.new.menus c.append-count.result) cut (c.append-count.ensures.added (omega (arith, ap (λ n. length (take n page)) cut))) in (
       listed.same_length ∙ c.loop-from.invariant.0,
       omega arith,
       to_more (g.F.Facts.meaning (facts_of p)) (view p) c.guesses-total.ensures.lines c.args.menus.now c.loop-from.menus c.loop-from.count c.loop-from.from c.loop-from.page page answer c.append-count.new.menus c.append-count.result
@@ -38,7 +38,9 @@ loop-from-smaller g c =
 pub returns : goal.returns
 returns g c =
     let p = c.args.planner.now in
-    let at = c.loop-from.invariant.2 in (
-      (c.in_ok-stands.ensures.1.0.0, (omega arith, tt)),
-      to_all (g.F.Facts.meaning (facts_of p)) (view p) c.guesses-total.ensures.lines c.args.menus.now c.loop-from.menus c.loop-from.count c.loop-from.from (omega arith) (omega arith) at,
-    )
+    let at = c.loop-from.invariant.2 in
+    let made = to_all (g.F.Facts.meaning (facts_of p)) (view p) c.guesses-total.ensures.lines c.args.menus.now c.loop-from.menus c.loop-from.count c.loop-from.from (omega arith) at in
+    record {
+      all = ((c.in_ok-stands.ensures.1.0.0, (omega arith, tt)), complete_from _ _ _ _ _ (omega arith) at.same_length at.stays made.exactly_menus);
+      lists = made;
+    }
