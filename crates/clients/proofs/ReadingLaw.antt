@@ -13,7 +13,7 @@ use Rattle.laws.specs.Runs.{Run, Call, RulesTold, NamedEmpty, change, nothing}
 use Rattle.laws.specs.Law.{Part, Chained, RulesStay, Pages, ExactlyMenus, guesses_of, last_call, joined_pages}
 use Rattle.laws.proofs.Lawful.{law_kept}
 use Rattle.laws.proofs.Readings.{later, run_join, call_behind, chained_behind, pages_later, told_front, named_front, told_later, rules_stay, list_accepted}
-use Rattle.planner.specs.Complete.{FullReading, ReadAll, reading_grounds}
+use Rattle.planner.specs.Complete.{FullReading, ReadAll, ReadByLists, reading_grounds}
 use Rattle.clients.specs.Reading.{MenusRead, menu_grounds}
 
 -- a list from the end, which is accepted and writes nothing
@@ -106,16 +106,16 @@ module _ (m : Meaning) (lawful : Lawful m) (number : ℕ) (log : List Event) (w 
     ground e (inr (none, inl (short, is))) = inr (not_told none, inl ((rules_now, told_now, omega (arith, guesses_told none rules_now told_now)), is))
     ground e (inr (none, inr (fits, nothing_left))) = absurd nothing_left
 
-    pub read_by_calls : (answer : Result ℕ Refusal) → ReadAll m w before after answer → Answered (menu_grounds m log (length before)) (MenusRead m log before after) (after ≡ before) answer
-    read_by_calls (Err e) read = (ground e read.0, read.1)
-    read_by_calls (Ok count) read =
+    pub read_by_calls : (answer : Result ℕ Refusal) → ReadAll m w before after answer → ReadByLists m w after answer → Answered (menu_grounds m log (length before)) (MenusRead m log before after) (after ≡ before) answer
+    read_by_calls (Err e) read lists = (ground e read.0, read.1)
+    read_by_calls (Ok count) read lists =
         let none = read.0.0 in
         let complete = read.1 in (
           (not_told none, (λ few. read.0.1.0 (omega (arith, few.2, guesses_told none few.0 few.1)), tt)),
           record {
             rules = rules_now;
             told = told_now;
-            exactly_menus = menus_told none _ complete.reading;
+            exactly_menus = menus_told none _ lists.reading;
             fits = complete.fits;
             same_length = complete.same_length;
             stays = complete.stays;

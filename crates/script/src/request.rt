@@ -162,7 +162,11 @@ fn digit(byte: u8) -> Option<u32>
 fn set(field: &[u8]) -> Option<u64>
     ensures { ReadsSet field.now result }
 {
-    if field == b"." { Some(0) } else { lines(field) }
+    if field == b".".as_slice() {
+        Some(0)
+    } else {
+        lines(field)
+    }
 }
 
 // One line or more, rising, joined by commas.

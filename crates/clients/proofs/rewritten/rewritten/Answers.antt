@@ -88,7 +88,7 @@ second-write c answer is =
 
 pub returns-in_err-write-2 : goal.returns-in_err-write-2
 returns-in_err-write-2 c =
-    let returned = err_from_is_err_and c.from-residual-in_err-write-2.result c.from-residual-in_err-write-2.ensures.1 in
+    let returned = err_from_is_err_and c.from_residual-in_err-write-2.result c.from_residual-in_err-write-2.ensures.1 in
     let refused = second-write (goal.at.returns-in_err-write-2 c).After-write-2 (Err c.in_err-write-2.field-0.0) c.in_err-write-2.was in
     inr (inr refused.0, rw (returned.1, returned.2) (ap Err refused.1))
 

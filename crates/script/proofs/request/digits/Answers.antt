@@ -15,7 +15,7 @@ returns-then-value-ge10000 c = λ all small.
     omega (arith, grown, ap (value_after value) next, c.loop-byte.invariant.1, small, c.if-value-ge10000.true)
 
 pub returns-in_err-value : goal.returns-in_err-value
-returns-in_err-value c = rw c.from-residual.ensures (λ all small.
+returns-in_err-value c = rw c.from_residual.ensures (λ all small.
     let i = c.loop-byte.byte-index in
     let field = c.args.field.now in
     let next = drop_more field i 0 c.loop-byte-test.true in

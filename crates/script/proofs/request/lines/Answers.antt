@@ -7,7 +7,7 @@ pub loop-item-init : goal.loop-item-init
 loop-item-init c = nothing_read c.args.field.now
 
 pub returns-in_err-line : goal.returns-in_err-line
-returns-in_err-line c = rw c.from-residual.ensures (only_empty c.args.field.now (λ n ns r e.
+returns-in_err-line c = rw c.from_residual.ensures (only_empty c.args.field.now (λ n ns r e.
     let f = first_left _ _ _ _ _ _ c.loop-item.invariant c.in-Some.ensures n ns r e in
     let low = rising_le (f.0 + 1) (f.1 ∷ f.2) 64 f.3.1 in
     c.in_err-line.ensures f.0 f.3.0 (omega arith) f.4))
@@ -25,7 +25,7 @@ loop-item-preserved c =
     record { old = w.old; new = w.new line.1; only = w.only } (omega arith)
 
 pub returns-in_err-last : goal.returns-in_err-last
-returns-in_err-last c = rw c.from-residual-in_err-last.ensures (only_empty c.args.field.now (λ n ns r e.
+returns-in_err-last c = rw c.from_residual-in_err-last.ensures (only_empty c.args.field.now (λ n ns r e.
     let l = last_left _ _ _ _ c.loop-item.invariant c.in_default.ensures n ns r e in
     c.in_err-last.ensures l.0 l.1 l.2 l.3))
 

@@ -6,7 +6,7 @@ use Rattle.script.proofs.request.write.Goals as goal
 use Rattle.script.proofs.request.write.Goals.{then-is_empty-via-then-is_empty, then-is_empty-via-else-is_empty+then-contains}
 
 pub returns-in_err-line : goal.returns-in_err-line
-returns-in_err-line c = rw c.from-residual.ensures (λ request fit e.
+returns-in_err-line c = rw c.from_residual.ensures (λ request fit e.
     no_parts _ _ c.in_err-line.ensures (write_fields c.args.fields.now request fit e).5)
 
 pub returns-then-is_empty : goal.returns-then-is_empty
@@ -20,6 +20,6 @@ returns-then-is_empty c = λ request fit e.
     ]
 
 pub returns-in_err-number : goal.returns-in_err-number
-returns-in_err-number c = rw c.from-residual-in_err-number.ensures (λ request fit e.
+returns-in_err-number c = rw c.from_residual-in_err-number.ensures (λ request fit e.
     let p = write_parts c.in_ok-line.ensures request fit e in
     c.in_err-number.ensures p.0 p.1 p.4)
