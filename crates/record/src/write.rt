@@ -2,7 +2,7 @@
 ghost use Rattle.std.specs.Prelude.{◌≡◌, ℕ, ◌+◌, ◌*◌, ◌<◌, ◌≤◌, ◌++◌, length, take, drop, Some, Decides};
 ghost use Rattle.record.specs.Record.{Examples, Good, edition, encode, entry_bytes, front, front_bytes, layout};
 ghost use Rattle.record.specs.Writing.{InBytes, Storable, Writes, numbers_end};
-ghost use Rattle.std.specs.List.{flat_map, AllByRecursion as All};
+ghost use Rattle.std.specs.List.{flat_map, AllByRecursion};
 
 use crate::entries::Entry;
 use crate::{ENTRY_BYTES, FRONT_BYTES, VERSION};
@@ -39,7 +39,7 @@ fn storable(entries: &[Entry]) -> bool
 
 // Does each line fit one byte, and each number two?
 fn in_bytes(entries: &[Entry]) -> bool
-    ensures { Decides result (All InBytes entries.now) }
+    ensures { Decides result (AllByRecursion InBytes entries.now) }
 {
     for entry in entries {
         if entry.line > MOST_IN_A_BYTE || entry.number > MOST_IN_TWO {
