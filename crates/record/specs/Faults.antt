@@ -1,5 +1,5 @@
 -- What reading answers: the entries of a record, or the first fault of the bytes. Faults come in the order of their places.
-use Rattle.std.specs.Prelude.{◌≡◌, ℕ, ◌+◌, ◌*◌, ◌<◌, ◌≤◌, List, [], ◌∷◌, ◌++◌, length, drop, Ok, Err, Result, slice_index, slice_index_or}
+use Rattle.std.specs.Prelude.{◌≡◌, ℕ, ◌+◌, ◌*◌, ◌<◌, ◌≤◌, List, [], ◌∷◌, ◌++◌, length, drop, Ok, Err, Result, slice_index}
 use Rattle.std.specs.Borrow.{Bor}
 use Rattle.std.specs.List.{flat_map}
 use Rattle.record.specs.declared.entries.Entry.{Entry}
@@ -71,7 +71,7 @@ pub record Opened (bytes rest : List ℕ) : Type 0 where
   pub right_version : RightVersion bytes
   pub right_count : RightCount bytes
   pub rest_is : rest ≡ drop front_bytes bytes
-  pub low : slice_index_or bytes 1 0 < 256
+  pub low : slice_index bytes 1 < 256
 
 -- Accepted, the bytes in front are right; else they have the fault, whatever numbers have been given out.
 abbrev pub Opens : List ℕ → Result (Bor (List ℕ)) Fault → Type 0

@@ -1,6 +1,6 @@
 -- The record of a saved menu, as bytes, and which entries a record may hold.
 use Rattle.std.specs.Prelude.{◌≡◌, ℕ, ◌+◌, ◌/◌, ◌%◌, ◌<◌, ◌≤◌, Bool, true, false, List, [], ◌∷◌, ◌++◌, length, take}
-use Rattle.std.specs.List.{flat_map, AllByRecursion as All}
+use Rattle.std.specs.List.{flat_map, AllByRecursion}
 use Rattle.record.specs.declared.entries.Entry.{Entry}
 use Rattle.record.specs.declared.entries.Entries.{Entries}
 
@@ -53,7 +53,7 @@ GivenOut next e = (1 ≤ e.number) × (e.number < next)
 -- what a record may hold
 pub record Good (next : ℕ) (es : List Entry) : Type 0 where
   pub rising : Rising es
-  pub given : All (GivenOut next) es
+  pub given : AllByRecursion (GivenOut next) es
 
 -- the entry may follow entries whose lines are all below `least`
 abbrev pub Fit : ℕ → ℕ → Entry → Type 0

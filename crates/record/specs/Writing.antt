@@ -1,6 +1,6 @@
 -- What writing answers, and what it leaves in the buffer.
 use Rattle.std.specs.Prelude.{◌≡◌, ℕ, ◌<◌, ◌≤◌, List, ◌++◌, length, drop, Some, None, Option}
-use Rattle.std.specs.List.{AllByRecursion as All}
+use Rattle.std.specs.List.{AllByRecursion}
 use Rattle.record.specs.declared.entries.Entry.{Entry}
 use Rattle.record.specs.Record.{encode, edition}
 
@@ -14,7 +14,7 @@ InBytes e = (e.line < 256) × (e.number < numbers_end)
 
 -- each entry fits its bytes, and how many there are fits one byte
 abbrev pub Storable : List Entry → Type 0
-Storable es = (length es < 256) × All InBytes es
+Storable es = (length es < 256) × AllByRecursion InBytes es
 
 -- Written, the record stands at the buffer's start, and the rest of the buffer is as it was.
 -- Not written, the entries do not fit their bytes or the record does not fit the buffer, and all of it is as it was.

@@ -2,7 +2,7 @@
 ghost use Rattle.std.specs.Prelude.{◌≡◌, ℕ, ◌+◌, ◌*◌, ◌<◌, ◌≤◌, ◌++◌, length, take, drop, Some, Decides};
 ghost use Rattle.record.specs.Record.{Examples, Good, edition, encode, entry_bytes, front, front_bytes, layout};
 ghost use Rattle.record.specs.Writing.{InBytes, Storable, Writes, numbers_end};
-ghost use Rattle.std.specs.List.{flat_map, AllByRecursion as All};
+ghost use Rattle.std.specs.List.{flat_map, AllByRecursion};
 
 use crate::entries::Entry;
 use crate::{ENTRY_BYTES, FRONT_BYTES, VERSION};
@@ -39,7 +39,7 @@ fn storable(entries: &[Entry]) -> bool
 
 // Does each line fit one byte, and each number two?
 fn in_bytes(entries: &[Entry]) -> bool
-    ensures { Decides result (All InBytes entries.now) }
+    ensures { Decides result (AllByRecursion InBytes entries.now) }
 {
     for entry in entries {
         if entry.line > MOST_IN_A_BYTE || entry.number > MOST_IN_TWO {
@@ -51,7 +51,8 @@ fn in_bytes(entries: &[Entry]) -> bool
 
 // Length, version and count.
 fn put_front(count: usize, buffer: &mut [u8])
-    requires { (count < 256) × (front_bytes ≤ length buffer.old) }
+    requires few { count < 256 }
+    requires room { front_bytes ≤ length buffer.old }
     ensures { buffer.new ≡ front edition (2 + entry_bytes * count) count ++ drop front_bytes buffer.old }
 {
     let behind = 2 + ENTRY_BYTES * count;
@@ -63,7 +64,8 @@ fn put_front(count: usize, buffer: &mut [u8])
 
 // The entries, behind the four bytes in front.
 fn put_entries(entries: &[Entry], buffer: &mut [u8])
-    requires { (Storable entries.now) × (front_bytes + entry_bytes * length entries.now ≤ length buffer.old) }
+    requires fit { Storable entries.now }
+    requires room { front_bytes + entry_bytes * length entries.now ≤ length buffer.old }
     ensures { buffer.new ≡ take front_bytes buffer.old ++ (flat_map layout entries.now ++ drop (front_bytes + entry_bytes * length entries.now) buffer.old) }
 {
     for (i, entry) in entries.iter().enumerate() {
@@ -73,7 +75,8 @@ fn put_entries(entries: &[Entry], buffer: &mut [u8])
 
 // One entry, from the place `at` on.
 fn put(entry: Entry, at: usize, buffer: &mut [u8])
-    requires { (InBytes entry) × (at + entry_bytes ≤ length buffer.old) }
+    requires fit { InBytes entry }
+    requires room { at + entry_bytes ≤ length buffer.old }
     ensures { buffer.new ≡ take at buffer.old ++ (layout entry ++ drop (at + entry_bytes) buffer.old) }
 {
     buffer[at] = entry.line as u8;

@@ -70,7 +70,7 @@ const RECORDS: &[&[u8]] = &[
 
 fn read_and_write(rt: &HostRuntime, bytes: &[u8]) -> io::Result<()> {
     let before = Hex(bytes);
-    print!(rt, "read{before},")?;
+    print!(rt; "read{before},")?;
     let Ok(entries) = read(bytes, NEXT) else {
         return println!(rt; " with a fault");
     };

@@ -30,8 +30,8 @@ fn write_all(rt: &HostRuntime, cases: &[Case]) -> io::Result<()> {
 
 fn tell(rt: &HostRuntime, name: &str, answer: Option<usize>) -> io::Result<()> {
     match answer {
-        Some(total) => print!(rt, "{name}: {total} bytes"),
-        None => print!(rt, "{name}: not written"),
+        Some(total) => print!(rt; "{name}: {total} bytes"),
+        None => print!(rt; "{name}: not written"),
     }
 }
 

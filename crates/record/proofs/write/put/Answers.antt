@@ -4,4 +4,4 @@ use Rattle.record.proofs.write.put.Goals as goal
 
 pub returns : goal.returns
 returns c =
-    put_entry c.args.buffer.now c.args.at _ _ _ c.args.entry (omega arith) (omega arith) (omega arith) c.requires.1
+    put_entry c.args.buffer.now c.args.at _ _ _ c.args.entry (omega arith) (omega arith) (omega arith) c.requires.room

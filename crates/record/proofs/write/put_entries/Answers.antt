@@ -7,17 +7,15 @@ use Rattle.record.specs.Writing.{InBytes}
 use Rattle.record.proofs.Placing.{placed_more}
 use Rattle.record.proofs.write.put_entries.Goals as goal
 
-pub put-requires : goal.put-requires
-put-requires c =
-    let room = c.requires.1 in
-    (All-get_or InBytes c.args.entries.now c.loop-i.i _ c.loop-i-test.true c.requires.0.1, omega arith)
+pub put-requires-clause-fit : goal.put-requires-clause-fit
+put-requires-clause-fit c = All-get_or InBytes c.args.entries.now c.loop-i.i _ c.loop-i-test.true c.requires.fit.1
 
 pub loop-i-init : goal.loop-i-init
 loop-i-init c = sym (take-append-drop front_bytes c.args.buffer.now)
 
 pub loop-i-preserved : goal.loop-i-preserved
 loop-i-preserved c =
-    c.put.ensures ∙ placed_more c.args.buffer.now c.loop-i.buffer c.args.entries.now c.loop-i.i _ _ (omega arith) c.loop-i-test.true c.requires.1 c.loop-i.invariant
+    c.put.ensures ∙ placed_more c.args.buffer.now c.loop-i.buffer c.args.entries.now c.loop-i.i _ _ (omega arith) c.loop-i-test.true c.requires.room c.loop-i.invariant
 
 pub returns : goal.returns
 returns c =
