@@ -1,5 +1,5 @@
 -- The tests that compute what follows decide what they should.
-use Rattle.std.specs.Prelude.{◌≡◌, ℕ, ◌/◌, ◌%◌, ◌^◌, ◌<◌, Bool, true, false, not, ◌||◌, ◌⊎◌, List, Some, None, Decides, Option, ◌==◌, ◌≢◌, bit_and, refl}
+use Rattle.std.specs.Prelude.{ℕ, ◌/◌, ◌%◌, ◌^◌, ◌<◌, Bool, true, false, not, ◌||◌, ◌⊎◌, List, Some, None, Decides, Option, ◌==◌, ◌≢◌, bit_and, refl}
 use Rattle.std.proofs.Common.{sym, subst, ◌∙◌, inl, inr, ⊎_elim, arith}
 use Rattle.std.proofs.lemmas.Bool.Decides.{Decides-eqb, Decides-not, Decides-or, Decides-and, Decides-like, Decides-below_and, not_from_Decides, same_from_decides}
 use Rattle.std.proofs.ByRecursion.{Decides-by_and}

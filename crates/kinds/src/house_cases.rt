@@ -64,13 +64,13 @@ fn ask_house(
     for row in &FOLLOWS {
         let FollowRow(set, follows) = *row;
         let from = Members(set);
-        print!(rt, "from{from}")?;
+        print!(rt; "from{from}")?;
         tally.count(
             rt,
             Answer::Set(house::ask(facts, set)),
             Answer::Set(follows),
         )?;
     }
-    print!(rt, "names")?;
+    print!(rt; "names")?;
     tally.count(rt, Answer::Set(house::names(facts)), Answer::Set(NAMED))
 }

@@ -39,7 +39,7 @@ pub fn tell_steps<F>(
     for row in rows {
         let StepRow(needs, gives, answer) = *row;
         let lines = Members(needs);
-        print!(rt, "step{lines} gives {gives}")?;
+        print!(rt; "step{lines} gives {gives}")?;
         tally.count(rt, said(facts.step(needs, gives)), answer)?;
     }
     Ok(())
@@ -55,7 +55,7 @@ pub fn tell_clauses(
         let ClauseRow(first, second, answer) = *row;
         let yes = Members(first as u64);
         let no = Members(second as u64);
-        print!(rt, "clause yes{yes} or no{no}")?;
+        print!(rt; "clause yes{yes} or no{no}")?;
         tally.count(rt, said(facts.clause(first, second)), answer)?;
     }
     Ok(())
@@ -71,7 +71,7 @@ pub fn tell_senses(
         let SenseRow(line, first, second, answer) = *row;
         let yes = Members(first as u64);
         let no = Members(second as u64);
-        print!(rt, "sense {line} yes{yes} or no{no}")?;
+        print!(rt; "sense {line} yes{yes} or no{no}")?;
         tally.count(rt, said(facts.sense(line, first, second)), answer)?;
     }
     Ok(())
@@ -86,7 +86,7 @@ pub fn ask_all<F: Facts>(
     for row in rows {
         let FollowRow(set, follows) = *row;
         let from = Members(set);
-        print!(rt, "from{from}")?;
+        print!(rt; "from{from}")?;
         tally.count(rt, Answer::Set(facts.follow(set)), Answer::Set(follows))?;
     }
     Ok(())
@@ -98,6 +98,6 @@ pub fn ask_names<F: Facts>(
     facts: &F,
     expected: u64,
 ) -> io::Result<()> {
-    print!(rt, "names")?;
+    print!(rt; "names")?;
     tally.count(rt, Answer::Set(facts.names()), Answer::Set(expected))
 }

@@ -1,5 +1,5 @@
 -- The smallest set that stands in the layers over clauses is the smallest that agrees with the rows.
-use Rattle.std.proofs.Common.{◌≡◌, ℕ, true, ◌⊎◌, List, is_some, Option, sym, subst, inl, inr, ⊎_elim}
+use Rattle.std.proofs.Common.{◌≡◌, ℕ, List, Option, sym, subst, inl, inr, ⊎_elim}
 use lib.Bits.{bit_or}
 use Rattle.sets.specs.Sets.{Has, IsLines, Smallest}
 use Rattle.sets.proofs.Lines.{or_has, or_has_left, or_has_right, same_lines}

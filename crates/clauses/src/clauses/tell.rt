@@ -59,7 +59,8 @@ impl Clauses {
 
     // Adds a clause where there is room, as the last; `next` has the rows that meet it too.
     fn push(&mut self, clause: Clause, next: [u64; WORDS])
-        requires { (length (clauses_of self.old) < most_clauses) × (TableOf (λ row. InTable self.old.met row × Meets clause row) next) }
+        requires room { length (clauses_of self.old) < most_clauses }
+        requires rows { TableOf (λ row. InTable self.old.met row × Meets clause row) next }
         ensures clauses { clauses_of self.new ≡ clauses_of self.old ++ clause ∷ [] }
         ensures senses { SameSenses (sense_of self.old) (sense_of self.new) }
     {
@@ -88,7 +89,8 @@ impl Clauses {
 
     // Writes the sense of a line.
     fn put_sense(&mut self, line: u32, clause: Clause)
-        requires { (line < 64) × (IsClause atom_count clause) }
+        requires line { line < 64 }
+        requires clause { IsClause atom_count clause }
         ensures line { sense_of self.new line ≡ Some clause }
         ensures others { (n : ℕ) → n ≢ line → sense_of self.new n ≡ sense_of self.old n }
         ensures clauses { clauses_of self.new ≡ clauses_of self.old }

@@ -5,7 +5,13 @@ use Rattle.clauses.specs.Rows.{IsClause, IsSense, atom_count}
 use Rattle.sets.proofs.Rows.{some_same}
 use Rattle.clauses.proofs.clauses.Clauses.put_sense.Goals as goal
 
-pub invariant-of-self : goal.invariant-of-self
-invariant-of-self c =
+pub invariant_of-self : goal.invariant_of-self
+invariant_of-self c =
     let f = c.args.self.now in
-    (f.long, (f.few, (simp length-set (omega arith), (f.narrowed, (each_set (IsSense atom_count) f.senses _ _ None f.senses_fit (λ d e. subst (IsClause atom_count) (some_same e) c.requires.1), tt)))))
+    record {
+      long = f.long;
+      few = f.few;
+      lines = simp length-set (omega arith);
+      narrowed = f.narrowed;
+      senses_fit = each_set (IsSense atom_count) f.senses _ _ None f.senses_fit (λ d e. subst (IsClause atom_count) (some_same e) c.requires.clause);
+    }

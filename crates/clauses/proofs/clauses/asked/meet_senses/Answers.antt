@@ -13,8 +13,8 @@ loop-line-init c =
     let f = c.args.facts.now in
     left_none (clauses_of f) (sense_of f) c.args.set 0 f.met (table_from_narrowed (clauses_of f) f.met f.narrowed)
 
-pub meet-sense-next-requires : goal.meet-sense-next-requires
-meet-sense-next-requires c = subst (IsSense atom_count) (sym c.sense_of.ensures) (c.args.facts.now.senses_fit c.loop-line.line)
+pub meet_sense-next-requires : goal.meet_sense-next-requires
+meet_sense-next-requires c = subst (IsSense atom_count) (sym c.sense_of.ensures) (c.args.facts.now.senses_fit c.loop-line.line)
 
 pub loop-line-preserved : goal.loop-line-preserved
 loop-line-preserved c =
@@ -23,8 +23,8 @@ loop-line-preserved c =
     elim c.if-has.branch [
       | then-has w ↦
           subst (TableOf (LeftBelow (clauses_of f) (sense_of f) c.args.set (c.loop-line.line + 1))) (sym w.table-is)
-          (left_more (clauses_of f) (sense_of f) c.args.set c.loop-line.line table w.meet-sense-next.result c.loop-line.invariant (c.has.ensures.0 w.if-has.true)
-          (subst (λ o. TableOf (λ row. InTable table row × MeetsSense o row) w.meet-sense-next.result) w.sense_of.ensures w.meet-sense-next.ensures))
+          (left_more (clauses_of f) (sense_of f) c.args.set c.loop-line.line table w.meet_sense-next.result c.loop-line.invariant (c.has.ensures.0 w.if-has.true)
+          (subst (λ o. TableOf (λ row. InTable table row × MeetsSense o row) w.meet_sense-next.result) w.sense_of.ensures w.meet_sense-next.ensures))
       | else-has w ↦
           subst (TableOf (LeftBelow (clauses_of f) (sense_of f) c.args.set (c.loop-line.line + 1))) (sym w.table-is)
           (left_same (clauses_of f) (sense_of f) c.args.set c.loop-line.line table c.loop-line.invariant (not_from_Decides c.has.result c.has.ensures w.if-has.false))

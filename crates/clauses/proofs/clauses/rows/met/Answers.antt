@@ -8,7 +8,7 @@ pub loop-atom-init : goal.loop-atom-init
 loop-atom-init c = below_none c.args.clause c.args.word
 
 pub loop-atom-preserved : goal.loop-atom-preserved
-loop-atom-preserved c = below_more c.args.clause c.loop-atom.atom c.args.word c.loop-atom.rows _ c.loop-atom.invariant c.met-by-rows.ensures
+loop-atom-preserved c = below_more c.args.clause c.loop-atom.atom c.args.word c.loop-atom.rows _ c.loop-atom.invariant c.met_by-rows.ensures
 
 pub returns : goal.returns
 returns c =

@@ -5,7 +5,7 @@ use Rattle.clauses.specs.Told.{clauses_of, sense_of}
 use Rattle.clauses.specs.Entailing.{computed_names, same_by, sense_on_lines}
 use Rattle.clauses.specs.Gathering.{Gathered, gathered_none, gathered_more, gathered_same, gathered_all, from_none}
 use Rattle.clauses.proofs.clauses.asked.ClausesFacts.names.Goals as goal
-use Rattle.clauses.proofs.clauses.asked.ClausesFacts.names.Goals.{then-has-sense, else-has-sense}
+use Rattle.clauses.proofs.clauses.asked.ClausesFacts.names.Goals.{then-has_sense, else-has_sense}
 
 pub loop-line-init : goal.loop-line-init
 loop-line-init c = gathered_none (λ n. is_some (sense_of c.args.self.now n) ≡ true) 0
@@ -14,13 +14,13 @@ pub loop-line-preserved : goal.loop-line-preserved
 loop-line-preserved c =
     let line = c.loop-line.line in
     let sensed = λ (n : ℕ). is_some (sense_of c.args.self.now n) ≡ true in
-    elim c.if-has-sense.branch [
-      | then-has-sense w ↦
+    elim c.if-has_sense.branch [
+      | then-has_sense w ↦
           subst (Gathered sensed 0 (line + 1)) (sym w.sensed-is)
-          (gathered_more sensed 0 line c.loop-line.sensed c.loop-line.invariant w.with-sensed.result (c.has-sense.ensures.0 w.if-has-sense.true) w.with-sensed.ensures.old (w.with-sensed.ensures.new (omega arith)) w.with-sensed.ensures.only)
-      | else-has-sense w ↦
+          (gathered_more sensed 0 line c.loop-line.sensed c.loop-line.invariant w.with-sensed.result (c.has_sense.ensures.0 w.if-has_sense.true) w.with-sensed.ensures.old (w.with-sensed.ensures.new (omega arith)) w.with-sensed.ensures.only)
+      | else-has_sense w ↦
           subst (Gathered sensed 0 (line + 1)) (sym w.sensed-is)
-          (gathered_same sensed 0 line c.loop-line.sensed c.loop-line.invariant (not_from_Decides c.has-sense.result c.has-sense.ensures w.if-has-sense.false))
+          (gathered_same sensed 0 line c.loop-line.sensed c.loop-line.invariant (not_from_Decides c.has_sense.result c.has_sense.ensures w.if-has_sense.false))
     ]
 
 pub returns : goal.returns
