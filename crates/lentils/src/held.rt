@@ -108,7 +108,7 @@ pub fn serve(rt: &HostRuntime, planner: &mut Kitchen) -> io::Result<Option<Recor
 }
 
 fn try_hold(rt: &HostRuntime, planner: &mut Kitchen, set: u64) -> io::Result<Option<Record>> {
-    print!(rt, "hold{}: ", Dishes { planner, set })?;
+    print!(rt; "hold{}: ", Dishes { planner, set })?;
     match keep(planner, set, LENTILS, LENTILS_RULE) {
         Ok(kept) => {
             println!(rt; "done")?;

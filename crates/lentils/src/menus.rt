@@ -24,10 +24,10 @@ pub fn list(rt: &HostRuntime, planner: &Kitchen, from: u32) -> io::Result<Option
     let mut page = [0];
     match planner.list(from, &mut page) {
         Ok(Listing { count, next }) => {
-            print!(rt, "list from {from}: count {count}, next {next}")?;
+            print!(rt; "list from {from}: count {count}, next {next}")?;
             for menu in page.iter().take(count) {
                 let set = *menu;
-                print!(rt, ", menu{}", Dishes { planner, set })?;
+                print!(rt; ", menu{}", Dishes { planner, set })?;
             }
             println!(rt; "")?;
             Ok(Some(next))

@@ -48,6 +48,6 @@ fn look(rt: &HostRuntime, planner: &Kitchen, bytes: &[u8]) -> io::Result<()> {
 
 // The lines of a set, and the dishes that are on them now.
 fn say(rt: &HostRuntime, planner: &Kitchen, which: &str, set: u64) -> io::Result<()> {
-    print!(rt, "  {which}: lines{}", Lines(set))?;
+    print!(rt; "  {which}: lines{}", Lines(set))?;
     println!(rt; ", now{}", Dishes { planner, set })
 }

@@ -89,7 +89,7 @@ fn seek(rt: &HostRuntime, planner: &Kitchen, number: u32) -> io::Result<()> {
 // Copies the words of a line into a buffer of dots, and prints the buffer.
 fn words(rt: &HostRuntime, planner: &Kitchen, line: u32) -> io::Result<()> {
     let mut buffer = [b'.'; 16];
-    print!(rt, "words of line {line}: ")?;
+    print!(rt; "words of line {line}: ")?;
     match planner.words(line, &mut buffer) {
         Ok(Wording { len, number }) => {
             println!(rt; "{len} bytes, number {number}")?;
