@@ -1,6 +1,6 @@
 -- Rows and clauses, over any number of atoms. A row says yes or no to each atom: bit a is yes to atom a.
 use Rattle.std.specs.Prelude.{◌≡◌, ℕ, ◌^◌, ◌<◌, true, ◌⊎◌, List, is_some, Some, None, Option}
-use Rattle.std.specs.List.{AllByRecursion as All}
+use Rattle.std.specs.List.{AllByRecursion}
 use Rattle.sets.specs.Sets.{Has}
 use Rattle.clauses.specs.declared.clause.Clause.{Clause}
 
@@ -25,7 +25,7 @@ abbrev pub Meets : Clause → ℕ → Type 0
 Meets c row = (a : ℕ) × MeetsBy c row a
 
 abbrev pub MeetsAll : List Clause → ℕ → Type 0
-MeetsAll clauses row = All (λ c. Meets c row) clauses
+MeetsAll clauses row = AllByRecursion (λ c. Meets c row) clauses
 
 -- the row meets the sense of a line, if the line has one
 abbrev pub MeetsSense : Option Clause → ℕ → Type 0

@@ -5,7 +5,7 @@ use Rattle.std.proofs.Common.{sym, ap, subst, ◌∙◌, inl, inr, ⊎_elim, ari
 use Rattle.std.proofs.lemmas.Nat.{pow_below, or_lt}
 use Rattle.std.proofs.lemmas.List.{take_more, drop_more}
 use Rattle.std.proofs.lemmas.Bool.Decides.{Decides-eqb, not_from_Decides}
-use Rattle.std.specs.List.{AllByRecursion as All}
+use Rattle.std.specs.List.{AllByRecursion}
 use Rattle.sets.specs.Sets.{Has, Within, IsLines, Smallest}
 use Rattle.sets.proofs.Lines.{or_has, or_has_left, or_has_right, single_has, single_only, within_from_and, and_from_within, same_lines, smallest_like, or_group}
 use Rattle.sets.proofs.Rows.{all_front, all_push, all_pushed}
@@ -41,18 +41,18 @@ one_pass x s is l = by (bit_and x.needs s == x.needs) refl
         let out = not_from_Decides _ (Decides-eqb (bit_and x.needs s) x.needs) e in
         passed_step x s s l (record { old = λ n h. h; new = λ w. absurd (out (and_from_within x.needs s w)); only = λ n h. inl h })
 
-pass_passed : (steps : List Step) (s : ℕ) → All IsStep steps → IsLines s → Passed (λ c. All (Obeys c) steps) s (pass steps s)
+pass_passed : (steps : List Step) (s : ℕ) → AllByRecursion IsStep steps → IsLines s → Passed (λ c. AllByRecursion (Obeys c) steps) s (pass steps s)
 pass_passed [] s is l = passed_none (λ c. Unit {0}) s l tt
 pass_passed (x ∷ xs) s is l =
     let first = one_pass x s is.0 l in
-    passed_then (λ c. Obeys c x) (λ c. All (Obeys c) xs) (λ c. Obeys c x × All (Obeys c) xs) s _ _ (λ c e. e) (λ c o os. (o, os)) first
+    passed_then (λ c. Obeys c x) (λ c. AllByRecursion (Obeys c) xs) (λ c. Obeys c x × AllByRecursion (Obeys c) xs) s _ _ (λ c e. e) (λ c o os. (o, os)) first
     (pass_passed xs _ is.1 first.lines)
 
 -- the set obeys each of the steps
 abbrev pub ObeysAll : List Step → ℕ → Type 0
-ObeysAll steps c = All (Obeys c) steps
+ObeysAll steps c = AllByRecursion (Obeys c) steps
 
-module _ (m : Meaning) (lawful : Lawful m) (steps : List Step) (are : All IsStep steps) where
+module _ (m : Meaning) (lawful : Lawful m) (steps : List Step) (are : AllByRecursion IsStep steps) where
   settle_least : (start fuel s : ℕ) → Reached m (ObeysAll steps) start s → 2 ^ 64 - s ≤ fuel → Smallest (Stable m (ObeysAll steps) start) (settle fuel (λ t. m.follow (pass steps t)) s)
   unfolding settle
   settle_least start zero s r room = absurd (omega (arith, r.lines))
@@ -84,13 +84,13 @@ module _ (m : Meaning) (lawful : Lawful m) (steps : List Step) (are : All IsStep
   stepped_follows start l =
       follows_from start _ (settle_least start (2 ^ 64) (m.follow start) (reached_start m lawful (ObeysAll steps) start l) (omega arith))
 
-lines_of_lines : (steps : List Step) → All IsStep steps → IsLines (lines_of steps)
+lines_of_lines : (steps : List Step) → AllByRecursion IsStep steps → IsLines (lines_of steps)
 lines_of_lines [] are = omega arith
 lines_of_lines (x ∷ xs) are =
     or_lt 64 _ (lines_of xs) (or_lt 64 x.needs (2 ^ x.gives) are.0.0 (pow_below x.gives 64 are.0.1)) (lines_of_lines xs are.1)
 
 -- a set that has every line in the steps obeys them
-obeys_named : (steps : List Step) (s : ℕ) → Within (lines_of steps) s → All (Obeys s) steps
+obeys_named : (steps : List Step) (s : ℕ) → Within (lines_of steps) s → AllByRecursion (Obeys s) steps
 obeys_named [] s w = tt
 obeys_named (x ∷ xs) s w =
     let own = lines_in x in (
@@ -98,7 +98,7 @@ obeys_named (x ∷ xs) s w =
       obeys_named xs s (λ n h. w n (or_has_right own (lines_of xs) n h)),
     )
 
-module _ (m : Meaning) (lawful : Lawful m) (steps : List Step) (are : All IsStep steps) where
+module _ (m : Meaning) (lawful : Lawful m) (steps : List Step) (are : AllByRecursion IsStep steps) where
   follows : (s : ℕ) → IsLines s → Follows m steps s ((stepped steps m).follow s)
   follows = stepped_follows m lawful steps are
 
@@ -166,7 +166,7 @@ named_more steps i all lt =
     ∙ sym (or_group all (lines_in x) (lines_of (drop (i + 1) steps)))
 
 -- what was told to facts of steps are steps
-pub told_are : {F : Type 0} (f : Steps F) → All IsStep (told f)
+pub told_are : {F : Type 0} (f : Steps F) → AllByRecursion IsStep (told f)
 told_are f = all_front IsStep f.count f.rows no_step (λ i. (f.needs_fit i, f.gives_fit i))
 
 -- what a pass over all that was told promises, told of the facts

@@ -1,6 +1,6 @@
 -- Facts told by steps: with all these lines in, this line too.
 use Rattle.std.specs.Prelude.{◌≡◌, ℕ, zero, suc, ◌^◌, ◌<◌, true, false, cond, ◌⊎◌, List, [], ◌∷◌, ◌==◌, bit_and, bit_or}
-use Rattle.std.specs.List.{AllByRecursion as All}
+use Rattle.std.specs.List.{AllByRecursion}
 use Rattle.sets.specs.Sets.{Has, Within, IsLines, Smallest}
 use Rattle.facts.specs.Meaning.{Meaning}
 use Rattle.facts.specs.declared.step.Step.{Step}
@@ -31,7 +31,7 @@ pub record Fires (x : Step) (s r : ℕ) : Type 0 where
 pub record Closed (m : Meaning) (steps : List Step) (start s : ℕ) : Type 0 where
   pub starts : Within start s
   pub left : m.follow s ≡ s
-  pub obeys : All (Obeys s) steps
+  pub obeys : AllByRecursion (Obeys s) steps
 
 -- what follows from `start` by the steps over the facts below
 abbrev pub Follows : Meaning → List Step → ℕ → ℕ → Type 0

@@ -1,7 +1,7 @@
 -- What follows by the layers one by one is the smallest set that stands in all of them.
 use Rattle.std.proofs.Common.{◌≡◌, ℕ, List, sym, ap, ◌∙◌, subst}
 use lib.Bits.{bit_or, or_lt}
-use Rattle.std.specs.List.{AllByRecursion as All}
+use Rattle.std.specs.List.{AllByRecursion}
 use Rattle.sets.specs.Sets.{Has, Within, IsLines, Smallest}
 use Rattle.sets.proofs.Lines.{or_has_left, or_has_right, or_within}
 use Rattle.facts.specs.Given.{given}
@@ -14,7 +14,7 @@ use Rattle.stack.specs.Stack.{Stands}
 
 module _ (m : Meaning) (lawful : Lawful m) (inner : ℕ) (fits : IsLines inner) (steps : List Step) (outer asked : ℕ) where
   -- what the layers mean is what follows by them
-  pub layers_follow : All IsStep steps → IsLines outer → IsLines asked → (r : ℕ) → r ≡ (given outer (stepped steps (given inner m))).follow asked → Follows (given inner m) steps (bit_or asked outer) r
+  pub layers_follow : AllByRecursion IsStep steps → IsLines outer → IsLines asked → (r : ℕ) → r ≡ (given outer (stepped steps (given inner m))).follow asked → Follows (given inner m) steps (bit_or asked outer) r
   layers_follow are lo la r e =
       subst (Follows (given inner m) steps (bit_or asked outer)) (sym e)
       (stepped_follows (given inner m) (given_lawful inner m fits lawful) steps are (bit_or asked outer) (or_lt 64 asked outer la lo))

@@ -1,6 +1,6 @@
 -- The layers with clauses at the bottom, told in rows.
 use Rattle.std.specs.Prelude.{◌≡◌, ℕ, true, ◌⊎◌, List, is_some, Option}
-use Rattle.std.specs.List.{AllByRecursion as All}
+use Rattle.std.specs.List.{AllByRecursion}
 use Rattle.sets.specs.Sets.{Has, Within}
 use Rattle.facts.specs.Steps.{Obeys, lines_of}
 use Rattle.facts.specs.declared.step.Step.{Step}
@@ -14,7 +14,7 @@ pub record Agrees (clauses : List Clause) (sense : ℕ → Option Clause) (inner
   pub has_outer : Within outer s
   pub has_inner : Within inner s
   pub entailed : (n : ℕ) → Entailed atom_count clauses sense s n → Has s n
-  pub obeys : All (Obeys s) steps
+  pub obeys : AllByRecursion (Obeys s) steps
 
 -- line n has a sense, is given in a layer, or is in a step
 abbrev pub Named : (ℕ → Option Clause) → ℕ → List Step → ℕ → ℕ → Type 0

@@ -1,6 +1,6 @@
 -- A stack of layers: a given set (the outer) over steps over a given set (the inner) over facts (the bottom).
 use Rattle.std.specs.Prelude.{◌≡◌, ℕ, List}
-use Rattle.std.specs.List.{AllByRecursion as All}
+use Rattle.std.specs.List.{AllByRecursion}
 use Rattle.sets.specs.Sets.{Within}
 use Rattle.facts.specs.Meaning.{Meaning}
 use Rattle.facts.specs.Steps.{Obeys}
@@ -29,4 +29,4 @@ pub record Stands (bottom : Meaning) (inner : ℕ) (steps : List Step) (outer as
   pub has_outer : Within outer s
   pub has_inner : Within inner s
   pub left : bottom.follow s ≡ s
-  pub obeys : All (Obeys s) steps
+  pub obeys : AllByRecursion (Obeys s) steps

@@ -5,7 +5,7 @@ ghost use Rattle.facts.specs.Meaning.{Meaning};
 ghost use Rattle.facts.specs.Steps.{IsStep, Obeys, Fires, Follows, lines_in, lines_of, stepped};
 ghost use Rattle.facts.specs.Told.{told};
 ghost use Rattle.sets.specs.Sets.{IsLines};
-ghost use Rattle.std.specs.List.{AllByRecursion as All};
+ghost use Rattle.std.specs.List.{AllByRecursion};
 ghost use Rattle.facts.specs.Stepping.{stepped_lawful, told_are};
 
 use crate::Facts;
@@ -26,8 +26,8 @@ fn fire(step: &Step, set: u64) -> u64
 
 // One pass over the steps: each whose needs are in adds its line.
 fn pass(steps: &[Step], mut set: u64) -> u64
-    requires { All IsStep steps.now }
-    ensures { Passed (λ c. All (Obeys c) steps.now) set result }
+    requires { AllByRecursion IsStep steps.now }
+    ensures { Passed (λ c. AllByRecursion (Obeys c) steps.now) set result }
 {
     for step in steps {
         set = fire(step, set);
@@ -45,7 +45,7 @@ fn lines(step: &Step) -> u64
 
 // Every line in the steps, and the lines of `named`.
 fn name_all(steps: &[Step], named: u64) -> u64
-    requires { All IsStep steps.now }
+    requires { AllByRecursion IsStep steps.now }
     ensures { result ≡ bit_or named (lines_of steps.now) }
 {
     let mut all = named;
