@@ -3,9 +3,9 @@ use Rattle.std.proofs.Common.{◌≡◌, ℕ, zero, suc, ◌+◌, ◌<◌, ◌�
 use lib.Bits.{bit_or}
 use lib.Count.{ones}
 use Rattle.std.proofs.lemmas.List.{map-set}
-use Rattle.std.proofs.lemmas.Bool.Decides.{Decides-eqb, not_from_Decides}
+use Rattle.std.proofs.lemmas.Bool.Decides.{Decides-eqb}
 use Rattle.std.specs.Option.{option_map}
-use Rattle.sets.specs.Sets.{Has, Within}
+use Rattle.sets.specs.Sets.{Has}
 use Rattle.sets.proofs.Lines.{or_has, or_has_left, or_has_right, ones_within}
 use Rattle.book.specs.Rows.{at, Full, Vacant, union, lines_named, unless_lines}
 use Rattle.book.specs.Kept.{Distinct, Given, OnLines, Worded, FewUnless, InRange, most_unless}
@@ -18,7 +18,7 @@ use Rattle.book.specs.declared.rows.HoldRow.{HoldRow}
 use Rattle.book.specs.declared.rows.Tables.{Tables}
 use Rattle.book.specs.declared.book.Book.{Book}
 use Rattle.sets.proofs.Rows.{some_same, no_some}
-use Rattle.book.proofs.Tables.{not_full, at_set, empty_at, full_map, union_at, union_has, union_set, union_unset}
+use Rattle.book.proofs.Tables.{not_full, at_set, empty_at, full_map, union_has, union_set, union_unset}
 
 module _ {X : Type 0} where
   -- a place that is not empty as it is seen through a function of its row is filled

@@ -1,9 +1,9 @@
 -- The entries of a set of lines, gathered line by line.
-use Rattle.std.proofs.Common.{◌≡◌, ℕ, ◌+◌, ◌<◌, ◌≤◌, ◌⊎◌, List, [], ◌∷◌, ◌++◌, length, Some, None, sym, refl, ap, ◌∙◌, subst, inl, inr, ⊎_elim, arith}
+use Rattle.std.proofs.Common.{◌≡◌, ℕ, ◌+◌, ◌<◌, ◌≤◌, ◌⊎◌, List, [], ◌∷◌, ◌++◌, length, Some, sym, refl, ap, ◌∙◌, subst, inl, inr, ⊎_elim, arith}
 use native.Mathlib.Decide.{ℕ_discrete}
 use Rattle.sets.specs.Sets.{Has, IsLines}
 use Rattle.sets.proofs.Lines.{has_below}
-use Rattle.sets.proofs.Rows.{some_same, no_some}
+use Rattle.sets.proofs.Rows.{some_same}
 use Rattle.record.specs.Record.{Good, RisingFrom}
 use Rattle.record.specs.declared.entries.Entry.{Entry}
 use Rattle.record.proofs.Rises.{after, after_more, after_counts, good_more}

@@ -1,18 +1,13 @@
 -- Tables of optional rows: what one write changes, the lines of all rows together, and how tables are seen.
-use Rattle.std.proofs.Common.{◌≡◌, ℕ, zero, suc, ◌+◌, ◌<◌, ◌≤◌, Bool, true, false, cond, eqb, ◌≢◌, ◌⊎◌, List, [], ◌∷◌, map, length, get_or, drop, set, replicate, is_some, Some, None, Option, sym, refl, ap, ◌∙◌, subst, inl, inr, ⊎_elim, arith}
+use Rattle.std.proofs.Common.{◌≡◌, ℕ, zero, suc, ◌+◌, ◌<◌, true, ◌⊎◌, List, [], ◌∷◌, map, length, drop, set, replicate, is_some, Some, None, Option, sym, refl, ap, ◌∙◌, subst, inl, inr, ⊎_elim, arith}
 use native.Mathlib.Decide.{dec_lt, ℕ_discrete}
 use lib.Bits.{bit_or}
 use Rattle.std.proofs.lemmas.List.{get_or-set_same, get_or-set_other, get_or_past, set_past, drop_more}
-use Rattle.std.proofs.lemmas.Bool.Decides.{Decides-eqb, not_from_Decides}
 use Rattle.std.specs.Option.{option_map}
 use Rattle.sets.specs.Sets.{Has, Within}
-use Rattle.sets.proofs.Lines.{or_has, or_has_left, or_has_right, or_within, or_group, none_has}
+use Rattle.sets.proofs.Lines.{or_has, or_has_left, or_has_right, or_group, none_has}
 use Rattle.sets.proofs.Rows.{replicate_each, some_same, no_some}
 use Rattle.book.specs.Rows.{at, Full, union}
-use Rattle.book.specs.Kept.{Distinct}
-use Rattle.book.specs.Contents.{Held}
-use Rattle.book.specs.View.{out_at}
-use Rattle.book.specs.declared.rows.HoldRow.{HoldRow}
 
 -- ---- places
 

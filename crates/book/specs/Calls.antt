@@ -1,7 +1,7 @@
 -- The calls on a book: on which grounds each is refused, what it answers, and what an accepted one changes.
 use Rattle.std.specs.Prelude.{◌≡◌, ℕ, ◌+◌, ◌<◌, ◌≤◌, ◌⊎◌, List, [], ◌∷◌, ◌++◌, length, drop, Some, None, Option, Result, MatchOption, ◌≢◌, bit_or, count_ones, slice_set}
 use Rattle.std.specs.Option.{option_map}
-use Rattle.std.specs.List.{AllByRecursion as All}
+use Rattle.std.specs.List.{AllByRecursion}
 use Rattle.sets.specs.Sets.{Has}
 use Rattle.sets.specs.Grounds.{Ground, Answered}
 use Rattle.sets.specs.declared.refusal.Refusal.{Refusal}
@@ -16,7 +16,7 @@ use Rattle.book.specs.declared.rows.Wording.{Wording}
 pub record GoodWords (words : List ℕ) : Type 0 where
   pub some : 1 ≤ length words
   pub few : length words ≤ 24
-  pub printable : All (λ b. (33 ≤ b) × (b ≤ 126)) words
+  pub printable : AllByRecursion (λ b. (33 ≤ b) × (b ≤ 126)) words
 
 -- a rule names the line
 abbrev pub IsNamed : Contents → ℕ → Type 0

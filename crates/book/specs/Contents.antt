@@ -1,5 +1,5 @@
 -- What a book holds, as its calls see it.
-use Rattle.std.specs.Prelude.{◌≡◌, ℕ, List, replicate, None, Option}
+use Rattle.std.specs.Prelude.{ℕ, List, replicate, None, Option}
 use Rattle.book.specs.declared.rows.Rule.{Rule}
 
 -- a statement: its number, and its words byte by byte

@@ -1,5 +1,5 @@
 -- What a menu is saved as: its lines with their numbers.
-use Rattle.std.specs.Prelude.{◌≡◌, ℕ, ◌≤◌, ◌⊎◌, List, [], ◌∷◌, Some}
+use Rattle.std.specs.Prelude.{◌≡◌, ℕ, ◌⊎◌, List, [], ◌∷◌, Some}
 use Rattle.sets.specs.Sets.{Has}
 use Rattle.record.specs.Record.{Rising}
 use Rattle.record.specs.declared.entries.Entry.{Entry}

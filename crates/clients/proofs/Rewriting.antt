@@ -2,7 +2,7 @@
 use Rattle.std.proofs.Common.{◌≡◌, ℕ, ◌+◌, ◌≤◌, Bool, true, false, cond, eqb, List, [], ◌∷◌, length, set, replicate, is_ok, Some, None, Ok, Err, Option, Result, sym, refl, ap, ◌∙◌, subst, inl, inr, ⊎_elim, arith}
 use native.Mathlib.Decide.{dec_lt}
 use lib.Count.{ones-le}
-use Rattle.std.specs.List.{AllByRecursion as All}
+use Rattle.std.specs.List.{AllByRecursion}
 use Rattle.sets.specs.Sets.{Has}
 use Rattle.sets.specs.Grounds.{Ground, NoGround, FirstGround}
 use Rattle.sets.specs.declared.refusal.Refusal.{Refusal}
@@ -49,7 +49,7 @@ statement number words = record { number = number; words = words }
 -- ---- words
 
 -- words that are not bad are good
-all_good : (words : List ℕ) → ((All (λ b. (33 ≤ b) × (b ≤ 126)) words → ⊥) → ⊥) → All (λ b. (33 ≤ b) × (b ≤ 126)) words
+all_good : (words : List ℕ) → ((AllByRecursion (λ b. (33 ≤ b) × (b ≤ 126)) words → ⊥) → ⊥) → AllByRecursion (λ b. (33 ≤ b) × (b ≤ 126)) words
 all_good [] not-bad = tt
 all_good (b ∷ words) not-bad = ((low, high), all_good words (λ bad. not-bad (λ all. bad all.1)))
   where

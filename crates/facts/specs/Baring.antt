@@ -1,5 +1,4 @@
 -- Bare facts keep the laws.
-use Rattle.std.specs.Prelude.{◌≡◌, ℕ}
 use Rattle.std.proofs.Common.{refl, arith}
 use Rattle.sets.proofs.Lines.{or_has_left}
 use Rattle.facts.specs.Meaning.{Lawful, bare}

@@ -5,7 +5,7 @@ use Rattle.facts.specs.Meaning.{Meaning, Lawful}
 use Rattle.book.specs.Contents.{Contents}
 use Rattle.book.specs.Calls.{number_at}
 use Rattle.laws.specs.World.{World, Event, fresh}
-use Rattle.laws.specs.Runs.{Run, Call, Change, change, empties, Struck}
+use Rattle.laws.specs.Runs.{Run, Call, change, empties, Struck}
 use Rattle.laws.proofs.Steps.{moved, next_grows}
 use Rattle.laws.proofs.Logs.{call_same, call_at}
 use Rattle.laws.proofs.Telling.{NumberTurns, numbers_turn}

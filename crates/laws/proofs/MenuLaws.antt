@@ -1,16 +1,15 @@
 -- The laws of menus, over any lawful facts and for any set u that has every unless-line of the rules.
-use Rattle.std.proofs.Common.{◌≡◌, ℕ, ◌^◌, ◌<◌, ◌⊎◌, List, Some, Option, sym, refl, ap, ◌∙◌, subst, inl, inr, ⊎_elim, arith}
+use Rattle.std.proofs.Common.{◌≡◌, ℕ, ◌<◌, List, Some, Option, sym, refl, subst, ⊎_elim}
 use lib.Bits.{bit_and, bit_or, or_lt}
-use lib.Count.{ones}
 use Rattle.sets.specs.Sets.{Has, Within, IsLines, Smallest}
 use Rattle.sets.specs.Picks.{Picks}
-use Rattle.sets.proofs.Lines.{and_has, and_has_left, and_has_right, or_has, or_has_left, or_has_right, same_lines, single_has, smallest_like, smallest_same}
+use Rattle.sets.proofs.Lines.{and_has, and_has_left, and_has_right, or_has, or_has_left, or_has_right, same_lines, smallest_like, smallest_same}
 use Rattle.sets.proofs.Picking.{picks_same, guess_same, guess_of, guess_order}
 use Rattle.facts.specs.Meaning.{Meaning, Lawful}
-use Rattle.book.specs.Rows.{at, union, unless_lines}
+use Rattle.book.specs.Rows.{at, unless_lines}
 use Rattle.book.specs.declared.rows.Rule.{Rule}
 use Rattle.book.proofs.Tables.{union_at}
-use Rattle.laws.specs.Menus.{Open, Obeys, Closed, Menu, Covers, GuessOf, Before}
+use Rattle.laws.specs.Menus.{Open, Closed, Menu, Covers, GuessOf, Before}
 use Rattle.laws.specs.Laws.{Found, MenuLaws}
 
 -- the lines in unless-sets cover the rules

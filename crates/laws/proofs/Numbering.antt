@@ -1,5 +1,5 @@
 -- No number is given twice.
-use Rattle.std.proofs.Common.{◌≡◌, ℕ, zero, suc, ◌+◌, ◌<◌, ◌≤◌, List, length, Ok, sym, ap, ◌∙◌, subst, arith}
+use Rattle.std.proofs.Common.{◌≡◌, ℕ, zero, suc, ◌+◌, ◌<◌, ◌≤◌, List, length, Ok, ap, subst, arith}
 use native.Mathlib.Decide.{dec_lt, ℕ_discrete}
 use Rattle.facts.specs.Meaning.{Meaning, Lawful}
 use Rattle.book.specs.Contents.{Contents}
@@ -8,7 +8,7 @@ use Rattle.laws.specs.Runs.{Run, Call, Change, change}
 use Rattle.laws.specs.Law.{InNumbers, Numbers}
 use Rattle.laws.proofs.Steps.{moved, next_grows}
 use Rattle.laws.proofs.Logs.{call_at, call_below}
-use Rattle.laws.proofs.Tracking.{world_at, world_start, moves_at, tracked_call}
+use Rattle.laws.proofs.Tracking.{world_start, moves_at, tracked_call}
 use Rattle.laws.proofs.Fates.{book_at}
 
 module _ (m : Meaning) (lawful : Lawful m) (number : ℕ) (log : List Event) (after : World) (run : Run m (fresh number) log after) where

@@ -1,7 +1,7 @@
 -- What is saved of a hold, looked at later, is read right.
 use Rattle.std.proofs.Common.{◌≡◌, ℕ, suc, ◌<◌, ◌≤◌, List, [], ◌∷◌, take, drop, Some, None, Ok, Err, Option, Result, sym, refl, ap, ◌∙◌, subst, inl, inr, ⊎_elim, arith}
 use Rattle.std.proofs.lemmas.List.{take_at}
-use Rattle.std.specs.List.{AllByRecursion as All}
+use Rattle.std.specs.List.{AllByRecursion}
 use Rattle.std.specs.Option.{option_map}
 use Rattle.sets.specs.Sets.{Has}
 use Rattle.sets.proofs.Rows.{some_same, no_some}
@@ -44,7 +44,7 @@ number_given c sound n k e = by (at c.lines n) refl
         (omega (arith, g.0), omega (arith, g.1))
 
 -- what holds of each line and number listed holds of all entries
-all_from_lists : (next : ℕ) (es : List Entry) → ((line number : ℕ) → Lists es line number → (1 ≤ number) × (number < next)) → All (GivenOut next) es
+all_from_lists : (next : ℕ) (es : List Entry) → ((line number : ℕ) → Lists es line number → (1 ≤ number) × (number < next)) → AllByRecursion (GivenOut next) es
 all_from_lists next [] each = tt
 all_from_lists next (e ∷ es) each = (each e.line e.number (inl (refl, refl)), all_from_lists next es (λ line number l. each line number (inr l)))
 

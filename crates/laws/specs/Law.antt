@@ -11,7 +11,7 @@ use Rattle.book.specs.Kept.{last_number}
 use Rattle.book.specs.declared.rows.Rule.{Rule}
 use Rattle.laws.specs.Menus.{Offered, Before}
 use Rattle.laws.specs.World.{World, Token, Event, fresh, wrote, struck, listed, held, saved, looked}
-use Rattle.laws.specs.Runs.{Run, Call, Change, change, ToPlace, Out, Struck, RulesTold, NamedEmpty}
+use Rattle.laws.specs.Runs.{Run, Call, change, ToPlace, Out, Struck, RulesTold, NamedEmpty}
 use Rattle.laws.specs.declared.listing.Listing.{Listing}
 use Rattle.laws.specs.declared.looked.Looked.{Looked}
 

@@ -1,5 +1,5 @@
 -- Lists of calls on one planner, the first call first: what they tell of it, from the calls and answers alone.
-use Rattle.std.specs.Prelude.{◌≡◌, ℕ, zero, suc, ◌<◌, ◌≤◌, ◌⊎◌, List, [], ◌∷◌, length, Some, Ok, Err, Option}
+use Rattle.std.specs.Prelude.{◌≡◌, ℕ, zero, suc, ◌<◌, ◌⊎◌, List, [], ◌∷◌, Some, Ok, Err, Option}
 use Rattle.sets.specs.Sets.{Has}
 use Rattle.facts.specs.Meaning.{Meaning}
 use Rattle.book.specs.Rows.{at}

@@ -1,12 +1,10 @@
 -- From what a reading found to the page that list promises.
-use Rattle.std.proofs.Common.{◌≡◌, ℕ, zero, suc, ◌+◌, ◌-◌, ◌^◌, ◌<◌, ◌≤◌, List, [], ◌∷◌, length, get_or, take, sym, refl, ap, ◌∙◌, subst, ⊎_elim, arith}
+use Rattle.std.proofs.Common.{◌≡◌, ℕ, zero, suc, ◌+◌, ◌-◌, ◌<◌, ◌≤◌, List, [], ◌∷◌, length, get_or, take, sym, ◌∙◌, subst, arith}
 use native.Mathlib.Decide.{dec_lt, ℕ_discrete}
-use lib.Count.{ones}
 use Rattle.std.proofs.lemmas.List.{get_or-take, length-take-le}
 use Rattle.sets.specs.Sets.{IsLines}
 use Rattle.facts.specs.Meaning.{Meaning}
-use Rattle.book.specs.Rows.{unless_lines}
-use Rattle.laws.specs.Menus.{Offered, Covers, GuessOf, Before}
+use Rattle.laws.specs.Menus.{Covers, GuessOf}
 use Rattle.laws.specs.Laws.{Found}
 use Rattle.planner.specs.Tries.{Reads, Reading, Stopped}
 use Rattle.laws.specs.World.{World, Page, guesses, guessed_of, rules_of}

@@ -1,5 +1,5 @@
 -- The entries of a record, parted one by one into current and gone.
-use Rattle.std.proofs.Common.{◌≡◌, ℕ, zero, suc, ◌+◌, ◌<◌, ◌⊎◌, List, [], ◌∷◌, ◌++◌, length, get_or, Some, sym, refl, ap, ◌∙◌, subst, inl, inr, ⊎_elim, arith}
+use Rattle.std.proofs.Common.{◌≡◌, ℕ, zero, suc, ◌+◌, ◌<◌, ◌⊎◌, List, [], ◌∷◌, ◌++◌, length, get_or, Some, sym, refl, subst, ⊎_elim, arith}
 use Rattle.sets.specs.Sets.{Has, Within}
 use Rattle.sets.proofs.Lines.{none_has}
 use Rattle.record.specs.Record.{RisingFrom}

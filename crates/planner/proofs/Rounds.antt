@@ -1,5 +1,5 @@
 -- Rounds over rules: what one more rule adds, and that a try ends with the smallest closed set.
-use Rattle.std.proofs.Common.{◌≡◌, ℕ, ◌+◌, ◌<◌, ◌≤◌, Bool, true, false, eqb, ◌⊎◌, List, length, is_some, Some, None, Decides, Option, sym, refl, ap, ◌∙◌, subst, ⊎_elim, arith}
+use Rattle.std.proofs.Common.{◌≡◌, ℕ, ◌+◌, ◌<◌, ◌≤◌, eqb, ◌⊎◌, List, length, is_some, Some, Decides, Option, sym, ap, ◌∙◌, subst, arith}
 use native.Mathlib.Decide.{ℕ_discrete}
 use lib.Bits.{bit_and}
 use Rattle.std.proofs.lemmas.Bool.Decides.{Decides-eqb, Decides-like}
@@ -7,7 +7,7 @@ use Rattle.sets.specs.Sets.{Has, Within, IsLines, Smallest}
 use Rattle.sets.specs.Picks.{Picks}
 use Rattle.sets.proofs.Lines.{and_has, and_has_left, and_has_right, none_has, same_lines, smallest_like, smallest_same}
 use Rattle.sets.proofs.Picking.{picks_same}
-use Rattle.facts.specs.Meaning.{Meaning, Lawful}
+use Rattle.facts.specs.Meaning.{Meaning}
 use Rattle.facts.specs.Closure.{Passed}
 use Rattle.facts.specs.ClosureLemmas.{passed_none, passed_line, passed_then, Stable}
 use Rattle.book.specs.Rows.{at}

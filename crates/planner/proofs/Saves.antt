@@ -1,5 +1,5 @@
 -- What a hold that is out is saved as.
-use Rattle.std.proofs.Common.{◌≡◌, ℕ, ◌<◌, ◌≤◌, List, length, is_some, Some, None, Option, sym, refl, ap, ◌∙◌, subst, inl, inr, arith}
+use Rattle.std.proofs.Common.{◌≡◌, ℕ, ◌≤◌, List, length, is_some, Some, None, Option, sym, refl, ap, ◌∙◌, subst, inl, inr, arith}
 use native.Mathlib.Decide.{dec_lt}
 use Rattle.std.specs.Option.{option_map}
 use Rattle.sets.specs.Grounds.{NoGround, FirstGround}
@@ -13,7 +13,7 @@ use Rattle.book.specs.Rows.{Full}
 use Rattle.book.specs.Contents.{Held}
 use Rattle.book.specs.Saved.{EntriesOf}
 use Rattle.book.proofs.Saving.{entries_one}
-use Rattle.laws.specs.World.{World, Token, OutHere, HoldEntries, RecordTooLong, Recorded, save_grounds}
+use Rattle.laws.specs.World.{World, Token, OutHere, HoldEntries, Recorded, save_grounds}
 
 -- a hold is seen by its lines
 held_lines : (o : Option Held) (lines : ℕ) → Some lines ≡ option_map (λ h. h.lines) o → o ≡ Some (record { lines = lines })

@@ -1,6 +1,6 @@
 -- Writing: bytes placed in a buffer, and entries that fit their bytes.
 use Rattle.std.proofs.Common.{◌≡◌, ℕ, suc, ◌+◌, ◌*◌, ◌/◌, ◌%◌, ◌<◌, ◌≤◌, List, [], ◌∷◌, ◌++◌, length, get_or, take, drop, set, Some, None, Option, sym, ap, ◌∙◌, arith, length-append}
-use Rattle.std.specs.List.{flat_map, AllByRecursion as All}
+use Rattle.std.specs.List.{flat_map, AllByRecursion}
 use Rattle.std.proofs.lemmas.List.{append_assoc, flat_map_more, length-take-le, take_at, drop_at, drop-drop, take_more}
 use Rattle.std.proofs.lemmas.List.Edits.{sets-eq}
 use Rattle.record.specs.declared.entries.Entry.{Entry}
@@ -56,7 +56,7 @@ written version es b g a e a-is =
     ∙ sym (append_assoc F J (drop (front_bytes + n) b))
 
 -- an entry of a rising list of given numbers fits its bytes
-in_bytes : (next least : ℕ) (es : List Entry) → next ≤ numbers_end → RisingFrom least es → All (GivenOut next) es → All InBytes es
+in_bytes : (next least : ℕ) (es : List Entry) → next ≤ numbers_end → RisingFrom least es → AllByRecursion (GivenOut next) es → AllByRecursion InBytes es
 in_bytes next least [] few r g = tt
 in_bytes next least (e ∷ es) few r g =
     let below = r.1 in

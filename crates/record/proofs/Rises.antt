@@ -1,6 +1,6 @@
 -- Entries that rise, one more at the end.
 use Rattle.std.proofs.Common.{◌≡◌, ℕ, ◌+◌, ◌<◌, ◌≤◌, List, [], ◌∷◌, ◌++◌, length, refl, arith}
-use Rattle.std.specs.List.{AllByRecursion as All}
+use Rattle.std.specs.List.{AllByRecursion}
 use Rattle.std.proofs.ByRecursion.{All-push}
 use Rattle.record.specs.declared.entries.Entry.{Entry}
 use Rattle.record.specs.Record.{RisingFrom, GivenOut, Good, Fit}
@@ -35,11 +35,11 @@ pub after_most : (least : ℕ) (es : List Entry) → least ≤ 64 → RisingFrom
 after_most least [] h r = h
 after_most least (x ∷ es) h r = let below = r.1 in after_most (x.line + 1) es (omega arith) r.2
 
-all_last : (P : Entry → Type 0) (es : List Entry) (e : Entry) → All P (es ++ (e ∷ [])) → P e
+all_last : (P : Entry → Type 0) (es : List Entry) (e : Entry) → AllByRecursion P (es ++ (e ∷ [])) → P e
 all_last P [] e h = h.0
 all_last P (x ∷ es) e h = all_last P es e h.1
 
-all_front : (P : Entry → Type 0) (es : List Entry) (e : Entry) (fs : List Entry) → All P (es ++ (e ∷ fs)) → All P (es ++ (e ∷ []))
+all_front : (P : Entry → Type 0) (es : List Entry) (e : Entry) (fs : List Entry) → AllByRecursion P (es ++ (e ∷ fs)) → AllByRecursion P (es ++ (e ∷ []))
 all_front P [] e fs h = (h.0, tt)
 all_front P (x ∷ es) e fs h = (h.0, all_front P es e fs h.1)
 

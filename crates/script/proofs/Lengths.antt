@@ -1,9 +1,9 @@
 -- No answer is longer than the buffer's least room.
-use Rattle.std.proofs.Common.{◌≡◌, ℕ, zero, suc, ◌+◌, ◌*◌, ◌^◌, ◌<◌, ◌≤◌, Bool, true, false, cond, List, [], ◌∷◌, ◌++◌, map, length, take, Some, None, codes, decimal, Option, sym, refl, ap, ◌∙◌, arith}
+use Rattle.std.proofs.Common.{◌≡◌, ℕ, zero, suc, ◌*◌, ◌^◌, ◌<◌, ◌≤◌, Bool, true, false, cond, List, [], ◌∷◌, ◌++◌, map, length, take, Some, None, codes, decimal, Option, refl, ap, arith}
 use Rattle.std.specs.List.{flat_map}
 use Rattle.std.proofs.lemmas.Fmt.{length-decimal-le}
 use Rattle.std.proofs.lemmas.List.{length-append, length-take}
-use Rattle.book.specs.Contents.{Contents, Statement}
+use Rattle.book.specs.Contents.{Statement}
 use Rattle.book.specs.Rows.{at}
 use Rattle.book.specs.View.{view}
 use Rattle.book.specs.declared.book.Book.{Book}

@@ -1,7 +1,7 @@
 -- How prints follow one another.
-use Rattle.std.proofs.Common.{◌≡◌, ℕ, ◌+◌, ◌-◌, ◌<◌, ◌≤◌, List, [], ◌∷◌, ◌++◌, length, get_or, take, drop, set, sym, refl, ap, ◌∙◌, subst, add-zero, add-one, arith, rules}
+use Rattle.std.proofs.Common.{◌≡◌, ℕ, ◌+◌, ◌-◌, ◌<◌, ◌≤◌, List, [], ◌∷◌, ◌++◌, length, take, drop, set, sym, refl, ap, ◌∙◌, subst, add-zero, add-one, arith}
 use lib.Seq.{paste}
-use Rattle.std.proofs.lemmas.List.{length-set, take-set, drop-set-lt, take-take, drop-drop, length-append, take-append-drop, set_split, take_more, take_all, length-take-le}
+use Rattle.std.proofs.lemmas.List.{length-set, take-set, drop-set-lt, take-take, drop-drop, length-append, take-append-drop, set_split, length-take-le}
 use Rattle.std.proofs.lemmas.List.Edits.{paste_all, paste-paste}
 use Rattle.script.specs.Writing.{Kept, Whole, Wrote}
 

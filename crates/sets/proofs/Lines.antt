@@ -1,5 +1,5 @@
 -- The laws of sets of lines: membership in unions, common parts and single lines, order, and equality by members.
-use Rattle.std.proofs.Common.{◌≡◌, ℕ, zero, suc, ◌+◌, ◌*◌, ◌/◌, ◌%◌, ◌^◌, ◌<◌, ◌≤◌, min, max, ◌⊎◌, sym, refl, ap, ◌∙◌, subst, inl, inr, ⊎_elim, lt_of_lt_of_le, le_antisymm, pow-suc, div-one, add-one, one-add, arith, pow_mono}
+use Rattle.std.proofs.Common.{◌≡◌, ℕ, zero, suc, ◌+◌, ◌/◌, ◌%◌, ◌^◌, ◌<◌, ◌≤◌, min, max, ◌⊎◌, sym, refl, ap, ◌∙◌, subst, inl, inr, ⊎_elim, lt_of_lt_of_le, le_antisymm, pow-suc, div-one, one-add, arith, pow_mono}
 use native.Mathlib.Nat.{zero-div, div-eq_of_lt}
 use native.Mathlib.Decide.{dec_lt}
 use lib.Bits.{bit_and, bit_or, and_shr, or_shr, and_step, or_step}

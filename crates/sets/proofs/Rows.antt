@@ -1,6 +1,6 @@
 -- Tables as lists of rows: what holds of each row after one was written, and of a table whose rows are all alike.
 use Rattle.std.proofs.Common.{◌≡◌, ℕ, zero, suc, ◌<◌, List, [], ◌∷◌, ◌++◌, length, get_or, take, set, replicate, Some, None, refl, arith}
-use Rattle.std.specs.List.{AllByRecursion as All}
+use Rattle.std.specs.List.{AllByRecursion}
 
 -- two optional rows that are one have one row, and none is not some
 pub some_same : {X : Type 0} {x y : X} → Some x ≡ Some y → x ≡ y
@@ -24,21 +24,21 @@ replicate_each (suc n) a zero = refl
 replicate_each (suc n) a (suc j) = replicate_each n a j
 
 -- what holds of all elements, with one more at the end, or at a place
-pub all_push : {X : Type 0} (P : X → Type 0) (xs : List X) (x : X) → All P xs → P x → All P (xs ++ x ∷ [])
+pub all_push : {X : Type 0} (P : X → Type 0) (xs : List X) (x : X) → AllByRecursion P xs → P x → AllByRecursion P (xs ++ x ∷ [])
 all_push P [] x all here = (here, tt)
 all_push P (y ∷ ys) x all here = (all.0, all_push P ys x all.1 here)
 
-pub all_pushed : {X : Type 0} (P : X → Type 0) (xs : List X) (x : X) → All P (xs ++ x ∷ []) → All P xs × P x
+pub all_pushed : {X : Type 0} (P : X → Type 0) (xs : List X) (x : X) → AllByRecursion P (xs ++ x ∷ []) → AllByRecursion P xs × P x
 all_pushed P [] x all = (tt, all.0)
 all_pushed P (y ∷ ys) x all = let rest = all_pushed P ys x all.1 in ((all.0, rest.0), rest.1)
 
-pub all_at : {X : Type 0} (P : X → Type 0) (xs : List X) (i : ℕ) (d : X) → All P xs → i < length xs → P (get_or xs i d)
+pub all_at : {X : Type 0} (P : X → Type 0) (xs : List X) (i : ℕ) (d : X) → AllByRecursion P xs → i < length xs → P (get_or xs i d)
 all_at P [] i d all lt = absurd (omega arith)
 all_at P (x ∷ xs) zero d all lt = all.0
 all_at P (x ∷ xs) (suc i) d all lt = all_at P xs i d all.1 (omega arith)
 
 -- what holds of each row holds of each of the front ones
-pub all_front : {X : Type 0} (P : X → Type 0) (n : ℕ) (xs : List X) (d : X) → ((i : ℕ) → P (get_or xs i d)) → All P (take n xs)
+pub all_front : {X : Type 0} (P : X → Type 0) (n : ℕ) (xs : List X) (d : X) → ((i : ℕ) → P (get_or xs i d)) → AllByRecursion P (take n xs)
 all_front P zero xs d each = tt
 all_front P (suc n) [] d each = tt
 all_front P (suc n) (x ∷ xs) d each = (each zero, all_front P n xs d (λ i. each (suc i)))

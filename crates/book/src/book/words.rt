@@ -1,7 +1,7 @@
 // Words: 1 to 24 bytes, each from 33 to 126.
 ghost use Rattle.std.specs.Prelude.{◌≡◌, ◌≤◌, ◌++◌, length, take, drop, Decides};
 ghost use Rattle.book.specs.Calls.{GoodWords};
-ghost use Rattle.std.specs.List.{AllByRecursion as All};
+ghost use Rattle.std.specs.List.{AllByRecursion};
 
 pub const MOST_BYTES: usize = 24;
 
@@ -11,7 +11,7 @@ const LAST_PRINTED: u8 = 126;
 
 // Is every byte a printable one, and none a space?
 fn printable(words: &[u8]) -> bool
-    ensures { Decides result (All (λ b. (33 ≤ b) × (b ≤ 126)) words.now) }
+    ensures { Decides result (AllByRecursion (λ b. (33 ≤ b) × (b ≤ 126)) words.now) }
 {
     for byte in words {
         if *byte < FIRST_PRINTED || *byte > LAST_PRINTED {

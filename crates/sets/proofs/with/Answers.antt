@@ -1,7 +1,5 @@
-use Rattle.std.proofs.Common.{◌≡◌, ℕ, ◌*◌, ◌%◌, ◌^◌, ◌<◌, sym, ap, ◌∙◌, inl, inr, ⊎_elim, arith}
-use lib.Bits.{bit_or}
+use Rattle.std.proofs.Common.{◌≡◌, ◌*◌, ◌%◌, ◌^◌, inl, inr, ⊎_elim, arith}
 use Rattle.std.proofs.lemmas.Nat.{one_shl}
-use Rattle.sets.specs.Sets.{Has}
 use Rattle.sets.proofs.Lines.{or_has, or_has_left, or_has_right, single_has, single_only}
 use Rattle.sets.proofs.with.Goals as goal
 

@@ -1,5 +1,5 @@
 use Rattle.std.proofs.Common.{refl, subst, arith, take_all}
-use Rattle.std.specs.List.{AllByRecursion as All}
+use Rattle.std.specs.List.{AllByRecursion}
 use Rattle.std.proofs.ByRecursion.{All-get_or, All-more}
 use Rattle.record.specs.Writing.{InBytes}
 use Rattle.record.proofs.write.in_bytes.Goals as goal
@@ -22,4 +22,4 @@ returns-then-entry-gt-MOST_IN_A_BYTE c = (
 )
 
 pub returns : goal.returns
-returns c = (λ _. subst (All InBytes) (take_all _ _ c.loop-entry-test.false) c.loop-entry.invariant, λ _. refl)
+returns c = (λ _. subst (AllByRecursion InBytes) (take_all _ _ c.loop-entry-test.false) c.loop-entry.invariant, λ _. refl)

@@ -1,4 +1,4 @@
-use Rattle.std.proofs.Common.{ℕ, sym, arith}
+use Rattle.std.proofs.Common.{sym, arith}
 use Rattle.std.proofs.lemmas.List.{take_more, take_all}
 use Rattle.script.proofs.Writes.{wrote_none, wrote_one, wrote_then, wrote_full, wrote_as}
 use Rattle.script.proofs.print.put.Goals as goal

@@ -1,6 +1,6 @@
-use Rattle.std.proofs.Common.{◌+◌, ◌<◌, ◌∷◌, length, sym, ap, ◌∙◌, arith}
+use Rattle.std.proofs.Common.{◌+◌, ◌∷◌, length, ap, arith}
 use Rattle.std.proofs.lemmas.List.{length-append}
-use Rattle.script.proofs.SetReads.{Added, rising_le, nothing_read, first_left, last_left, one_more, all_read, only_empty}
+use Rattle.script.proofs.SetReads.{rising_le, nothing_read, first_left, last_left, one_more, all_read, only_empty}
 use Rattle.script.proofs.request.lines.Goals as goal
 
 pub loop-item-init : goal.loop-item-init

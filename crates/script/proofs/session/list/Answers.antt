@@ -1,4 +1,4 @@
-use Rattle.std.proofs.Common.{◌≡◌, ℕ, ◌≤◌, length, Ok, Err, refl, ap, ◌∙◌, arith}
+use Rattle.std.proofs.Common.{◌≡◌, length, Ok, Err, refl, ap, ◌∙◌, arith}
 use Rattle.book.specs.View.{view as book-view}
 use Rattle.planner.specs.View.{view}
 use Rattle.script.specs.Answering.{page_text}

@@ -1,4 +1,4 @@
-use Rattle.std.proofs.Common.{◌<◌, ◌≤◌, replicate, None, refl, ap, ◌∙◌, arith}
+use Rattle.std.proofs.Common.{◌<◌, ◌≤◌, replicate, None, refl, arith}
 use lib.Count.{ones, ones_in}
 use Rattle.sets.proofs.Lines.{none_has}
 use Rattle.book.specs.declared.rows.LineRow.{LineRow}

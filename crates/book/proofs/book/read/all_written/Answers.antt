@@ -1,6 +1,5 @@
-use Rattle.std.proofs.Common.{◌≡◌, ◌+◌, true, is_some, sym, ap, ◌∙◌, subst, arith}
+use Rattle.std.proofs.Common.{◌+◌, is_some, sym, ap, subst, arith}
 use Rattle.sets.proofs.Lines.{none_has}
-use Rattle.book.specs.Rows.{Full}
 use Rattle.book.proofs.Tables.{FullBelow, full_more, full_same, full_below}
 use Rattle.book.proofs.book.read.all_written.Goals as goal
 use Rattle.book.proofs.book.read.all_written.Goals.{in-Some, in_default}

@@ -1,7 +1,6 @@
-use Rattle.std.proofs.Common.{is_some, Some, None, sym, ap, ◌∙◌, arith, below_more}
+use Rattle.std.proofs.Common.{Some, None, sym, ap, ◌∙◌, arith, below_more}
 use Rattle.std.proofs.lemmas.List.{get_or_read}
 use Rattle.std.specs.Option.{option_map}
-use Rattle.book.specs.Rows.{at}
 use Rattle.sets.proofs.Rows.{no_some, some_same}
 use Rattle.book.proofs.Tables.{full_below, full_from_number}
 use Rattle.book.proofs.book.search.place_of.Goals as goal

@@ -1,5 +1,5 @@
 use Rattle.std.proofs.Common.{refl, subst, arith, take_all}
-use Rattle.std.specs.List.{AllByRecursion as All}
+use Rattle.std.specs.List.{AllByRecursion}
 use Rattle.std.proofs.ByRecursion.{All-get_or, All-more}
 use Rattle.book.proofs.book.words.printable.Goals as goal
 
@@ -12,4 +12,4 @@ returns-then-byte-lt-FIRST_PRINTED c =
     (λ e. grind arith, λ all. absurd (omega (arith, All-get_or _ c.args.words.now c.loop-byte.byte-index 0 c.loop-byte-test.true all)))
 
 pub returns : goal.returns
-returns c = (λ _. subst (All _) (take_all _ _ c.loop-byte-test.false) c.loop-byte.invariant, λ _. refl)
+returns c = (λ _. subst (AllByRecursion _) (take_all _ _ c.loop-byte-test.false) c.loop-byte.invariant, λ _. refl)

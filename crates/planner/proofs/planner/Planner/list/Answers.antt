@@ -1,4 +1,4 @@
-use Rattle.std.proofs.Common.{sym, refl, ap, subst, arith}
+use Rattle.std.proofs.Common.{refl, subst, arith}
 use mathlib.Core.Path.{subst₃}
 use Rattle.std.proofs.lemmas.Bool.Decides.{not_from_Decides}
 use Rattle.sets.specs.Sets.{IsLines}

@@ -1,5 +1,4 @@
 use Rattle.std.proofs.Common.{refl, ap}
-use Rattle.laws.specs.World.{World}
 use Rattle.laws.proofs.MenuLaws.{menu_laws}
 use Rattle.laws.proofs.Lawful.{law_kept}
 use Rattle.planner.proofs.planner.Planner.new.Goals as goal

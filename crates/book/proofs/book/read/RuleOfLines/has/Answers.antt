@@ -1,5 +1,4 @@
 use Rattle.std.proofs.Common.{◌^◌, eqb, sym, subst, inl, inr, ⊎_elim}
-use mathlib.Core.Logic.{⊎_map}
 use lib.Bits.{bit_or}
 use Rattle.std.proofs.lemmas.Bool.Decides.{Decides-or, Decides-eqb, Decides-like}
 use Rattle.sets.specs.Sets.{Has}

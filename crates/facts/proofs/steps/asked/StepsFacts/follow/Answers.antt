@@ -1,6 +1,5 @@
 use Rattle.std.proofs.Common.{sym, subst, arith}
-use Rattle.std.specs.List.{AllByRecursion as All}
-use Rattle.sets.specs.Sets.{Smallest}
+use Rattle.std.specs.List.{AllByRecursion}
 use Rattle.sets.proofs.Lines.{smallest_same}
 use Rattle.facts.specs.Steps.{IsStep, Closed, Follows}
 use Rattle.facts.specs.Told.{told}
@@ -9,7 +8,7 @@ use Rattle.facts.specs.Stepping.{ObeysAll, told_are, passed_told, follows_from, 
 use Rattle.facts.proofs.steps.asked.StepsFacts.follow.Goals as goal
 
 pub pass-requires : goal.pass-requires
-pass-requires g c = subst (All IsStep) (sym c.all_told-steps.ensures) (told_are c.args.self.now)
+pass-requires g c = subst (AllByRecursion IsStep) (sym c.all_told-steps.ensures) (told_are c.args.self.now)
 
 pub loop-reached-init : goal.loop-reached-init
 loop-reached-init g c =
