@@ -1,7 +1,7 @@
 // Sets of lines in 64 bits, and the refusals that every layer above answers with.
 #![tactic(auto)]
 
-ghost use Rattle.std.specs.Prelude.{◌≡◌, ℕ, ◌^◌, ◌<◌, ◌⊎◌, Decides};
+ghost use Rattle.std.specs.Prelude.{◌≡◌, ℕ, ◌^◌, ◌<◌, ◌⊎◌, true, false, Decides};
 ghost use Rattle.sets.specs.Sets.{Has, Within};
 
 pub mod pick;
@@ -34,4 +34,19 @@ pub fn with(set: u64, line: u32) -> u64
         return set;
     }
     set | 1 << line
+}
+
+// The lines for which the test says yes.
+pub fn lines_where<F: Fn(u32) -> bool>(test: F) -> u64
+    requires { (n : ℕ) → n < 64 → F.pre test n }
+    ensures has { (n : ℕ) → Has result n → (n < 64) × F.post test n true }
+    ensures lacks { (n : ℕ) → n < 64 → (Has result n → ⊥) → F.post test n false }
+{
+    let mut all = 0;
+    for line in 0u32..64 {
+        if test(line) {
+            all = with(all, line);
+        }
+    }
+    all
 }

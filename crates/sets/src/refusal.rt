@@ -5,39 +5,39 @@ ghost use Rattle.std.specs.Prelude.{◌≡◌};
 #[derive(Clone, Copy, PartialEq, Eq, Debug)]
 pub enum Refusal {
     // a line above 63 or a place above 39
-    OutOfRange,
+    OutOfRange = 1,
     // the line or the place is filled already
-    Filled,
+    Filled = 2,
     // words that are not 1 to 24 bytes from 33 to 126
-    BadWords,
+    BadWords = 3,
     // every number has been given out
-    NumbersSpent,
+    NumbersSpent = 4,
     // the line or the place is empty, or a rule would name an empty line
-    Empty,
+    Empty = 5,
     // a hold that is out has the line
-    Held,
+    Held = 6,
     // a rule or the facts name the line
-    Named,
+    Named = 7,
     // the lines in unless-sets would be more than 12
-    TooManyUnless,
+    TooManyUnless = 8,
     // the facts name an empty line
-    FactsNameEmpty,
+    FactsNameEmpty = 9,
     // a reading that starts above the number of guesses
-    FromTooHigh,
+    FromTooHigh = 10,
     // the set is no menu
-    NoMenu,
+    NoMenu = 11,
     // as many holds are out as may be
-    HoldsFull,
+    HoldsFull = 12,
     // not a hold that is out here
-    NotOut,
+    NotOut = 13,
     // the buffer is too short for the answer
-    BufferTooShort,
+    BufferTooShort = 14,
     // a set of atoms above the last atom
-    AtomsTooHigh,
+    AtomsTooHigh = 18,
     // no room for a further fact
-    FactsFull,
+    FactsFull = 19,
     // the line has a sense already
-    HasSense,
+    HasSense = 20,
 }
 
 impl Refusal {
@@ -45,24 +45,6 @@ impl Refusal {
     pub fn number(self) -> u32
         ensures { result ≡ number_of self }
     {
-        match self {
-            Refusal::OutOfRange => 1,
-            Refusal::Filled => 2,
-            Refusal::BadWords => 3,
-            Refusal::NumbersSpent => 4,
-            Refusal::Empty => 5,
-            Refusal::Held => 6,
-            Refusal::Named => 7,
-            Refusal::TooManyUnless => 8,
-            Refusal::FactsNameEmpty => 9,
-            Refusal::FromTooHigh => 10,
-            Refusal::NoMenu => 11,
-            Refusal::HoldsFull => 12,
-            Refusal::NotOut => 13,
-            Refusal::BufferTooShort => 14,
-            Refusal::AtomsTooHigh => 18,
-            Refusal::FactsFull => 19,
-            Refusal::HasSense => 20,
-        }
+        self as u32
     }
 }
