@@ -1,9 +1,13 @@
 -- Tables of optional rows: what one write changes, the lines of all rows together, and how tables are seen.
-use Rattle.std.proofs.Common.{◌≡◌, ℕ, zero, suc, ◌+◌, ◌<◌, true, ◌⊎◌, List, [], ◌∷◌, map, length, drop, set, replicate, is_some, Some, None, Option, sym, refl, ap, ◌∙◌, subst, inl, inr, ⊎_elim, arith}
+use Rattle.std.proofs.Common.{◌≡◌, ℕ, zero, suc, ◌+◌, ◌<◌, Bool, true, false, cond, ltb, ◌⊎◌, List, [], ◌∷◌, map, length, drop, get_or, set, replicate, is_none, is_some, Some, None, Option, sym, refl, ap, ◌∙◌, subst, inl, inr, ⊎_elim, arith}
 use native.Mathlib.Decide.{dec_lt, ℕ_discrete}
 use lib.Bits.{bit_or}
 use Rattle.std.proofs.lemmas.List.{get_or-set_same, get_or-set_other, get_or_past, set_past, drop_more}
-use Rattle.std.specs.Option.{option_map}
+use Rattle.std.specs.Option.{option_map, MatchOption}
+use Rattle.std.specs.Array.{AllOfLen}
+use Rattle.std.specs.List.{position, position_or_len}
+use Rattle.std.proofs.lemmas.Bool.Decides.{Decides-ltb, not_from_Decides}
+use Rattle.std.proofs.lemmas.List.Sums.{passes_at_first, fails_before_first}
 use Rattle.sets.specs.Sets.{Has, Within}
 use Rattle.sets.proofs.Lines.{or_has, or_has_left, or_has_right, or_group, none_has}
 use Rattle.sets.proofs.Rows.{replicate_each, some_same, no_some}
@@ -31,6 +35,42 @@ module _ {X : Type 0} where
   -- an empty table has nothing anywhere
   pub empty_at : (n j : ℕ) → at {X = X} (replicate n None) j ≡ None
   empty_at n j = replicate_each n None j
+
+-- a test that is true first at a place, or nowhere
+pub position_tells : {X : Type 0} (p : X → Bool) (xs : List X) (d : X)
+    → MatchOption (position p xs) ((i : ℕ) → i < length xs → p (get_or xs i d) ≡ false) (λ i. (i < length xs) × (p (get_or xs i d) ≡ true))
+position_tells p xs d = by (ltb (position_or_len p xs) (length xs)) refl
+  where
+    by : (b : Bool) → ltb (position_or_len p xs) (length xs) ≡ b → MatchOption (cond b (Some (position_or_len p xs)) None) ((i : ℕ) → i < length xs → p (get_or xs i d) ≡ false) (λ i. (i < length xs) × (p (get_or xs i d) ≡ true))
+    by true e = let lt = (Decides-ltb (position_or_len p xs) (length xs)).0 e in (lt, passes_at_first p xs d lt)
+    by false e = λ i lt. fails_before_first p xs i d (let past = not_from_Decides _ (Decides-ltb (position_or_len p xs) (length xs)) e in omega arith)
+
+-- the first place that is free, or no place is
+pub free_first : {X : Type 0} (rows : List (Option X)) → MatchOption (position is_none rows) ((i : ℕ) → i < length rows → Full rows i) (λ i. (i < length rows) × (at rows i ≡ None))
+free_first {X = X} rows = by (position is_none rows) (position_tells is_none rows None)
+  where
+    none : (o : Option X) → is_none o ≡ true → o ≡ None
+    none None e = refl
+    none (Some x) e = grind arith
+
+    some : (o : Option X) → is_none o ≡ false → is_some o ≡ true
+    some None e = grind arith
+    some (Some x) e = refl
+
+    by : (r : Option ℕ) → MatchOption r ((i : ℕ) → i < length rows → is_none (at rows i) ≡ false) (λ i. (i < length rows) × (is_none (at rows i) ≡ true)) → MatchOption r ((i : ℕ) → i < length rows → Full rows i) (λ i. (i < length rows) × (at rows i ≡ None))
+    by None all = λ i lt. some (at rows i) (all i lt)
+    by (Some i) here = (here.0, none (at rows i) here.1)
+
+-- a table of so many rows that are all empty
+nones : {X : Type 0} (rows : List (Option X)) (n : ℕ) → length rows ≡ n → ((i : ℕ) → i < n → at rows i ≡ None) → rows ≡ replicate n None
+nones [] zero long each = refl
+nones [] (suc n) long each = absurd (omega arith)
+nones (row ∷ rows) zero long each = absurd (omega arith)
+nones (row ∷ rows) (suc n) long each =
+    ap (λ o. o ∷ rows) (each zero (omega arith)) ∙ ap (λ rest. None ∷ rest) (nones rows n (omega arith) (λ i l. each (suc i) (omega arith)))
+
+pub all_none : {X : Type 0} (rows : List (Option X)) (n : ℕ) → AllOfLen (λ o. o ≡ None) rows n → rows ≡ replicate n None
+all_none rows n all = nones rows n all.long (λ i l. all.at i None l)
 
 -- a place whose row has a number is filled
 pub full_from_number : {X : Type 0} (number : X → ℕ) (rows : List (Option X)) (i n : ℕ) → option_map number (at rows i) ≡ Some n → Full rows i

@@ -1,7 +1,7 @@
 -- What a book shows: at most 24 bytes of words, copied byte by byte, numbers of one line each, from 1 on, and rules on written lines.
-use Rattle.std.proofs.Common.{◌≡◌, ℕ, ◌+◌, ◌<◌, ◌≤◌, List, [], ◌∷◌, ◌++◌, length, get_or, take, drop, set, Some, None, Option, sym, refl, ap, ◌∙◌, subst, arith}
-use Rattle.std.proofs.lemmas.List.{append_assoc, length-map, length-take, length-take-le, take_more, drop_more, set_at}
-use Rattle.std.specs.Option.{option_map}
+use Rattle.std.proofs.Common.{◌≡◌, ℕ, Bor, ◌<◌, ◌≤◌, length, Some, None, Option, sym, refl, ap, ◌∙◌, subst, arith}
+use Rattle.std.proofs.lemmas.List.{length-map}
+use Rattle.std.specs.Option.{option_map, option_copied, IfSome}
 use Rattle.sets.specs.Sets.{Has}
 use Rattle.book.specs.Rows.{at, Full, lines_named}
 use Rattle.book.specs.Contents.{Statement}
@@ -21,16 +21,12 @@ words_few b n s e = by (at b.tables.lines n) refl (sym (at_map said b.tables.lin
     by (Some row) here f =
         let few = b.worded n row here in
         let same = ap (λ x. length x.words) (some_same f) in
-        omega (arith, length-take row.len row.words)
+        omega arith
 
--- one byte more was copied
-pub copied_more : (bytes buffer : List ℕ) (i : ℕ) → i < length bytes → i < length buffer → set (take i bytes ++ drop i buffer) i (get_or bytes i 0) ≡ take (i + 1) bytes ++ drop (i + 1) buffer
-copied_more bytes buffer i lt room =
-    let front : length (take i bytes) ≡ i = length-take-le i bytes (omega arith) in
-    ap (λ rest. set (take i bytes ++ rest) i (get_or bytes i 0)) (drop_more buffer i 0 room)
-    ∙ set_at (take i bytes) (get_or buffer i 0) (drop (i + 1) buffer) (get_or bytes i 0) i front
-    ∙ sym (append_assoc (take i bytes) (get_or bytes i 0 ∷ []) (drop (i + 1) buffer))
-    ∙ ap (λ f. f ++ drop (i + 1) buffer) (sym (take_more bytes i 0 lt))
+-- a row that was found has at most 24 bytes of words
+pub worded_at : (b : Book) (n : ℕ) (found : Option (Bor LineRow)) → option_copied found ≡ at b.tables.lines n → IfSome found (λ row. length row.now.words.items ≤ 24)
+worded_at b n None e = tt
+worded_at b n (Some row) e = b.worded n row.now (sym e)
 
 -- only one line has a number
 pub where_one : (b : Book) (number line other : ℕ) → number_at (view b) line ≡ Some number → number_at (view b) other ≡ Some number → line ≡ other

@@ -1,7 +1,10 @@
 -- The holds that are out: how many, taking one, and giving it back.
-use Rattle.std.specs.Prelude.{◌≡◌, ℕ, zero, suc, ◌+◌, ◌<◌, ◌≤◌, Bool, true, false, cond, is_some, Some, None, Option, ◌==◌}
+use Rattle.std.specs.Prelude.{◌≡◌, ℕ, zero, suc, ◌+◌, ◌<◌, ◌≤◌, Bool, true, cond, List, [], ◌∷◌, is_some, Some, None, Option, Result, ◌==◌}
 use Rattle.sets.specs.Sets.{Has}
-use Rattle.book.specs.Rows.{Full}
+use Rattle.sets.specs.Grounds.{Ground, Answered}
+use Rattle.sets.specs.declared.refusal.Refusal.{Refusal}
+use Rattle.sets.specs.declared.refusal.Refusal.TheVariants.{NumbersSpent, Empty, HoldsFull, NotOut}
+use Rattle.book.specs.Rows.{Vacant}
 use Rattle.book.specs.Kept.{last_number}
 use Rattle.book.specs.Contents.{Contents, Held}
 
@@ -46,18 +49,20 @@ without_hold c number = record {
   next_hold = c.next_hold;
 }
 
--- a hold on these lines can be taken: a number is left, fewer are out than may be, and every line is written
-pub record CanHold (c : Contents) (lines : ℕ) : Type 0 where
-  pub number_left : c.next_hold ≤ last_number
-  pub room : out_count c < most_out
-  pub written : (n : ℕ) → Has lines n → Full c.lines n
+-- a hold is refused if no number is left, then if a line is empty, then if as many are out as may be
+abbrev pub hold_grounds : Contents → ℕ → List Ground
+hold_grounds c lines =
+    record { gives = NumbersSpent; when = last_number < c.next_hold }
+    ∷ record { gives = Empty; when = (n : ℕ) × Has lines n × Vacant c.lines n }
+    ∷ record { gives = HoldsFull; when = most_out ≤ out_count c }
+    ∷ []
 
--- taken, the answer is its number; else nothing changes
-abbrev pub TakeHold : Contents → ℕ → Option ℕ → Contents → Type 0
-TakeHold c lines (Some number) after = CanHold c lines × (number ≡ c.next_hold) × (after ≡ with_hold c lines)
-TakeHold c lines None after = (CanHold c lines → ⊥) × (after ≡ c)
+-- taken, the answer is its number
+abbrev pub TakeHold : Contents → ℕ → Result ℕ Refusal → Contents → Type 0
+TakeHold c lines answer after =
+    Answered (hold_grounds c lines) (λ number. (number ≡ c.next_hold) × (after ≡ with_hold c lines)) (after ≡ c) answer
 
--- given back if it was out; else nothing changes
-abbrev pub GiveBack : Contents → ℕ → Bool → Contents → Type 0
-GiveBack c number true after = IsOut c number × (after ≡ without_hold c number)
-GiveBack c number false after = (IsOut c number → ⊥) × (after ≡ c)
+-- given back, it is out no more
+abbrev pub GiveBack : Contents → ℕ → Result (Unit {0}) Refusal → Contents → Type 0
+GiveBack c number answer after =
+    Answered (record { gives = NotOut; when = IsOut c number → ⊥ } ∷ []) (λ _. after ≡ without_hold c number) (after ≡ c) answer

@@ -1,5 +1,5 @@
 -- What every book keeps, as facts about its tables.
-use Rattle.std.specs.Prelude.{◌≡◌, ℕ, ◌+◌, ◌<◌, ◌≤◌, List, Some, Option, count_ones}
+use Rattle.std.specs.Prelude.{◌≡◌, ℕ, ◌+◌, ◌<◌, ◌≤◌, List, length, Some, Option, count_ones}
 use Rattle.std.specs.Option.{option_map}
 use Rattle.sets.specs.Sets.{Has}
 use Rattle.book.specs.Rows.{at, Full, union, unless_lines}
@@ -29,7 +29,7 @@ OnLines lines rows filled = (n : ℕ) → Has (union lines rows) n → Full fill
 
 -- the words of a statement lie within its 24 bytes
 abbrev pub Worded : List (Option LineRow) → Type 0
-Worded rows = (i : ℕ) (a : LineRow) → at rows i ≡ Some a → a.len ≤ 24
+Worded rows = (i : ℕ) (a : LineRow) → at rows i ≡ Some a → length a.words.items ≤ 24
 
 -- at most so many lines stand in unless-sets
 abbrev pub FewUnless : List (Option Rule) → Type 0

@@ -1,5 +1,5 @@
 -- How the tables are seen: what a book holds, read off its rows.
-use Rattle.std.specs.Prelude.{ℕ, cond, List, [], ◌∷◌, map, take, Some, None, Option, ◌==◌}
+use Rattle.std.specs.Prelude.{ℕ, cond, List, [], ◌∷◌, map, Some, None, Option, ◌==◌}
 use Rattle.std.specs.Option.{option_map}
 use Rattle.book.specs.Contents.{Contents, Statement, Held}
 use Rattle.book.specs.declared.rows.LineRow.{LineRow}
@@ -8,7 +8,7 @@ use Rattle.book.specs.declared.rows.Tables.{Tables}
 use Rattle.book.specs.declared.book.Book.{Book}
 
 abbrev pub said : LineRow → Statement
-said row = record { number = row.number; words = take row.len row.words }
+said row = record { number = row.number; words = row.words.items }
 
 -- the hold of this number, in a table where no two have one number
 abbrev pub out_at : List (Option HoldRow) → ℕ → Option Held

@@ -1,11 +1,15 @@
 // The rows of the book's tables.
 
-// The statement on a line: its number, and its words in the first `len` bytes.
-#[derive(Clone, Copy)]
+use arrayvec::ArrayVec;
+
+// The most bytes that words take.
+pub const MOST_BYTES: usize = 24;
+
+// The statement on a line: its number and its words.
+#[derive(Drop)]
 pub struct LineRow {
     pub number: u32,
-    pub words: [u8; 24],
-    pub len: usize,
+    pub words: ArrayVec<u8, MOST_BYTES>,
 }
 
 // A rule: with the lines of `needs` in, the line `gives`, unless a line of `unless` is in.

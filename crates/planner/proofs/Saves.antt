@@ -1,8 +1,8 @@
 -- What a hold that is out is saved as.
 use Rattle.std.proofs.Common.{◌≡◌, ℕ, ◌≤◌, List, length, is_some, Some, None, Option, sym, refl, ap, ◌∙◌, subst, inl, inr, arith}
 use native.Mathlib.Decide.{dec_lt}
-use Rattle.std.specs.Option.{option_map}
-use Rattle.sets.specs.Grounds.{NoGround, FirstGround}
+use Rattle.std.specs.Option.{option_map, ok_or}
+use Rattle.sets.specs.Grounds.{NoGround, FirstGround, Answered}
 use Rattle.sets.specs.declared.refusal.Refusal.TheVariants.{BufferTooShort}
 use Rattle.sets.proofs.Rows.{some_same, no_some}
 use Rattle.record.specs.Record.{edition, encode}
@@ -37,11 +37,17 @@ module _ (w : World) (hold : Token) (own : hold.planner ≡ w.number) (lines : �
         let same : lines ≡ h.held.lines = ap (λ x. x.lines) (some_same (sym is_held ∙ h.out)) in
         entries_one w.book lines es fs of (subst (λ s. EntriesOf w.book s fs) (sym same) h.of)
 
-    pub save_done : (before after : List ℕ) (count : ℕ) → Writes es before after (Some count) → NoGround (save_grounds w hold (length before)) × Recorded w.book hold.number before after count
+    save_done : (before after : List ℕ) (count : ℕ) → Writes es before after (Some count) → NoGround (save_grounds w hold (length before)) × Recorded w.book hold.number before after count
     save_done before after count written = (
       ((λ out. out out_here), ((λ long. let same = ap (λ x. length (encode edition x)) (entries_are long.0 long.1) in omega (arith, long.2, written.1, written.2)), tt)),
       record { entries = es; of_hold = hold_entries; length_is = written.1; bytes = written.3 },
     )
 
-    pub save_short : (room : ℕ) → (length (encode edition es) ≤ room → ⊥) → FirstGround (save_grounds w hold room) BufferTooShort
+    save_short : (room : ℕ) → (length (encode edition es) ≤ room → ⊥) → FirstGround (save_grounds w hold room) BufferTooShort
     save_short room short = inr ((λ out. out out_here), inl ((es, hold_entries, elim (dec_lt room (length (encode edition es))) [ yes lt ↦ lt | no ge ↦ absurd (short (omega arith)) ]), refl))
+
+    -- how the writing of its entries is answered
+    pub save_answers : (before after : List ℕ) (written : Option ℕ) → Writes es before after written → (length (encode edition es) ≤ length before → written ≡ Some (length (encode edition es)))
+        → Answered (save_grounds w hold (length before)) (Recorded w.book hold.number before after) (after ≡ before) (ok_or written BufferTooShort)
+    save_answers before after None written good = (save_short (length before) (λ room. no_some (good room)), written.1)
+    save_answers before after (Some count) written good = save_done before after count written

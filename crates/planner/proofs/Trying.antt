@@ -56,8 +56,3 @@ module _ (F : ℕ → ℕ → Type 0) where
         no_place = λ z. absurd (omega (arith, at.same_length));
         full = λ _ e. absurd (omega (arith, at.same_length));
       }
-
-      -- what a try found, or that it found nothing, was put to the page
-      pub reading_put : (found : Option ℕ) → MatchOption found ((s : ℕ) → F next s → ⊥) (F next) → (page : List ℕ) (filled : ℕ) → MatchOption found ((page ≡ after) × (filled ≡ count)) (λ s. (page ≡ set after count s) × (filled ≡ count + 1)) → Reading F from total before page filled (next + 1)
-      reading_put None none page filled put = subst₂ (λ p c. Reading F from total before p c (next + 1)) (sym put.0) (sym put.1) (reading_missed none)
-      reading_put (Some s) found page filled put = subst₂ (λ p c. Reading F from total before p c (next + 1)) (sym put.0) (sym put.1) (reading_found s found)

@@ -1,14 +1,12 @@
 // The planner, and its calls.
-ghost use Rattle.std.specs.Prelude.{◌≡◌, ◌≤◌, Decides};
-ghost use Rattle.book.specs.Rows.{GivesLines};
+ghost use Rattle.std.specs.Prelude.{◌≡◌, Decides};
 ghost use Rattle.laws.specs.Law.{Law};
-ghost use Rattle.laws.specs.Laws.{Found, MenuLaws};
-ghost use Rattle.planner.specs.Tries.{Stopped};
-ghost use Rattle.planner.specs.View.{view, facts_of, book_of};
-ghost use Rattle.laws.specs.World.{NameEmpty, Step, fresh, guesses, guessed_of, wrote, struck, ruled, unruled, said, sought, stood, listed};
+ghost use Rattle.laws.specs.Laws.{MenuLaws};
+ghost use Rattle.planner.specs.View.{Does, Tells, view, facts_of, book_of};
+ghost use Rattle.laws.specs.World.{NameEmpty, fresh, guesses, guessed_of, wrote, struck, ruled, unruled, said, sought, stood, listed};
 ghost use Rattle.sets.specs.Sets.{IsLines};
 
-use crate::tries::{close, find, put};
+use crate::tries::Tries;
 use book::book::Book;
 use book::rows::{Rule, Wording};
 use facts::Facts;
@@ -54,24 +52,21 @@ impl<F: Facts> Planner<F> {
 
     // Fills an empty line with words, and answers the statement's number.
     pub fn write(&mut self, line: u32, words: &[u8]) -> Result<u32, Refusal>
-        ensures step { Step (F.Facts.meaning (facts_of self.old)) (view self.old) (wrote line words.now result) (view self.new) }
-        ensures facts { facts_of self.new ≡ facts_of self.old }
+        ensures { Does F.Facts.meaning self.old (wrote line words.now result) self.new }
     {
         self.book.write(line, words)
     }
 
     // Empties a line.
     pub fn strike(&mut self, line: u32) -> Result<(), Refusal>
-        ensures step { Step (F.Facts.meaning (facts_of self.old)) (view self.old) (struck line result) (view self.new) }
-        ensures facts { facts_of self.new ≡ facts_of self.old }
+        ensures { Does F.Facts.meaning self.old (struck line result) self.new }
     {
         self.book.strike(line, &self.facts)
     }
 
     // Fills an empty place with a rule.
     pub fn rule(&mut self, place: u32, needs: u64, unless: u64, gives: u32) -> Result<(), Refusal>
-        ensures step { Step (F.Facts.meaning (facts_of self.old)) (view self.old) (ruled place (record { needs = needs; unless = unless; gives = gives }) result) (view self.new) }
-        ensures facts { facts_of self.new ≡ facts_of self.old }
+        ensures { Does F.Facts.meaning self.old (ruled place (record { needs = needs; unless = unless; gives = gives }) result) self.new }
     {
         self.book.rule(
             place,
@@ -85,8 +80,7 @@ impl<F: Facts> Planner<F> {
 
     // Empties a place.
     pub fn unrule(&mut self, place: u32) -> Result<(), Refusal>
-        ensures step { Step (F.Facts.meaning (facts_of self.old)) (view self.old) (unruled place result) (view self.new) }
-        ensures facts { facts_of self.new ≡ facts_of self.old }
+        ensures { Does F.Facts.meaning self.old (unruled place result) self.new }
     {
         self.book.unrule(place)
     }
@@ -101,14 +95,14 @@ impl<F: Facts> Planner<F> {
 
     // Copies the words of a line to the buffer's start, and answers their length and the number.
     pub fn words(&self, line: u32, buffer: &mut [u8]) -> Result<Wording, Refusal>
-        ensures { Step (F.Facts.meaning (facts_of self.now)) (view self.now) (said line buffer.old buffer.new result) (view self.now) }
+        ensures { Tells F.Facts.meaning self.now (said line buffer.old buffer.new result) }
     {
         self.book.words(line, buffer)
     }
 
     // The line that has this number now, or none.
     pub fn where_is(&self, number: u32) -> Option<u32>
-        ensures { Step (F.Facts.meaning (facts_of self.now)) (view self.now) (sought number result) (view self.now) }
+        ensures { Tells F.Facts.meaning self.now (sought number result) }
     {
         self.book.where_is(number)
     }
@@ -122,19 +116,18 @@ impl<F: Facts> Planner<F> {
 
     // Is this set a menu?
     pub fn stands(&self, set: u64) -> Result<bool, Refusal>
-        ensures { Step (F.Facts.meaning (facts_of self.now)) (view self.now) (stood set result) (view self.now) }
+        ensures { Tells F.Facts.meaning self.now (stood set result) }
     {
         if self.facts_name_empty() {
             return Err(Refusal::FactsNameEmpty);
         }
-        let start = self.facts.follow(0);
-        let least = close(&self.facts, self.book.rules(), set, start);
+        let least = Tries::new(&self.facts, &self.book).close(set);
         Ok(least == set)
     }
 
     // Writes what the guesses find, from a guess on, to the page: it stops when the page is full or no guess is left.
     pub fn list(&self, from: u32, page: &mut [u64]) -> Result<Listing, Refusal>
-        ensures { Step (F.Facts.meaning (facts_of self.now)) (view self.now) (listed from page.old page.new result) (view self.now) }
+        ensures { Tells F.Facts.meaning self.now (listed from page.old page.new result) }
     {
         if self.facts_name_empty() {
             return Err(Refusal::FactsNameEmpty);
@@ -143,14 +136,7 @@ impl<F: Facts> Planner<F> {
         if from > total {
             return Err(Refusal::FromTooHigh);
         }
-        Ok(read(
-            &self.facts,
-            self.book.rules(),
-            self.book.unless_lines(),
-            from,
-            total,
-            page,
-        ))
+        Ok(Tries::new(&self.facts, &self.book).read(from, total, page))
     }
 
     // The book, to read.
@@ -159,27 +145,4 @@ impl<F: Facts> Planner<F> {
     {
         &self.book
     }
-}
-
-// Tries the guesses from `from` on, and writes each set found to the next place.
-fn read<F: Facts>(
-    facts: &F,
-    rules: &[Option<Rule>],
-    unless: u64,
-    from: u32,
-    total: u32,
-    page: &mut [u64],
-) -> Listing
-    requires { (GivesLines rules.now) × (from ≤ total) }
-    ensures { Stopped (Found (F.Facts.meaning facts.now) rules.now unless) from total page.old page.new result.count result.next }
-{
-    // what follows from nothing, where each try starts
-    let start = facts.follow(0);
-    let mut count = 0;
-    let mut next = from;
-    while count < page.len() && next < total {
-        count = put(page, count, find(facts, rules, unless, start, next));
-        next += 1;
-    }
-    Listing { count, next }
 }

@@ -7,6 +7,7 @@ ghost use Rattle.book.specs.View.{view};
 
 use crate::book::{Book, words};
 use crate::rows::{LineRow, Rule, Tables};
+use arrayvec::ArrayVec;
 use facts::Facts;
 use sets::refusal::Refusal;
 
@@ -31,7 +32,7 @@ impl Book {
     {
         Book {
             tables: Tables {
-                lines: [None; 64],
+                lines: Default::default(),
                 rules: [None; 40],
                 holds: [None; 16],
                 next: 1,
@@ -57,12 +58,8 @@ impl Book {
         if number > LAST_NUMBER {
             return Err(Refusal::NumbersSpent);
         }
-        let row = LineRow {
-            number,
-            words: words::padded(words),
-            len: words.len(),
-        };
-        self.tables.lines[line as usize] = Some(row);
+        let words = ArrayVec::try_from(words).map_err(|_| Refusal::BadWords)?;
+        self.tables.lines[line as usize] = Some(LineRow { number, words });
         self.tables.next = number + 1;
         Ok(number)
     }

@@ -11,17 +11,13 @@ use crate::book::Book;
 use crate::book::edit::LAST_NUMBER;
 use crate::book::search::place_of;
 use crate::rows::HoldRow;
+use sets::refusal::Refusal;
 
 // The first place that is free, if there is one.
-fn free_place<R: Copy>(rows: &[Option<R>]) -> Option<usize>
+fn free_place(rows: &[Option<HoldRow>]) -> Option<usize>
     ensures { MatchOption result ((i : ℕ) → i < length rows.now → Full rows.now i) (λ i. (i < length rows.now) × (at rows.now i ≡ None)) }
 {
-    for (i, row) in rows.iter().enumerate() {
-        if let None = row {
-            return Some(i);
-        }
-    }
-    None
+    rows.iter().position(Option::is_none)
 }
 
 impl Book {
@@ -32,34 +28,30 @@ impl Book {
         self.tables.next_hold > LAST_NUMBER
     }
 
-    // Takes a hold on these lines, and answers its number. None if no number or no place is left, or a line is empty.
-    pub fn hold(&mut self, lines: u64) -> Option<u32>
+    // Takes a hold on these lines, and answers its number.
+    pub fn hold(&mut self, lines: u64) -> Result<u32, Refusal>
         ensures { TakeHold (view self.old) lines result (view self.new) }
     {
         if self.holds_spent() {
-            return None;
+            return Err(Refusal::NumbersSpent);
         }
         if !sets::within(lines, self.written()) {
-            return None;
+            return Err(Refusal::Empty);
         }
-        let Some(place) = free_place(&self.tables.holds) else {
-            return None;
-        };
+        let place = free_place(&self.tables.holds).ok_or(Refusal::HoldsFull)?;
         let number = self.tables.next_hold;
         self.tables.holds[place] = Some(HoldRow { number, lines });
         self.tables.next_hold = number + 1;
-        Some(number)
+        Ok(number)
     }
 
-    // Gives the hold of this number back. False if it is not out.
-    pub fn release(&mut self, number: u32) -> bool
+    // Gives the hold of this number back.
+    pub fn release(&mut self, number: u32) -> Result<(), Refusal>
         ensures { GiveBack (view self.old) number result (view self.new) }
     {
-        let Some(place) = place_of(&self.tables.holds, number) else {
-            return false;
-        };
+        let place = place_of(&self.tables.holds, number).ok_or(Refusal::NotOut)?;
         self.tables.holds[place] = None;
-        true
+        Ok(())
     }
 
     // The lines of the hold of this number, if it is out. All of them are written.
@@ -67,13 +59,8 @@ impl Book {
         ensures lines { result ≡ option_map (λ h. h.lines) ((view self.now).holds number) }
         ensures written { (lines n : ℕ) → result ≡ Some lines → Has lines n → Full (view self.now).lines n }
     {
-        let Some(place) = place_of(&self.tables.holds, number) else {
-            return None;
-        };
-        let row = self.tables.holds[place];
-        match row {
-            Some(hold) => Some(hold.lines),
-            None => None,
-        }
+        let place = place_of(&self.tables.holds, number)?;
+        let row = self.tables.holds[place]?;
+        Some(row.lines)
     }
 }

@@ -1,14 +1,13 @@
 // What a book answers about itself.
-ghost use Rattle.std.specs.Prelude.{◌≡◌, ℕ, ◌≤◌, Some, Decides};
+ghost use Rattle.std.specs.Prelude.{◌≡◌, ℕ, ◌≤◌, Decides, IfSome, length};
 ghost use Rattle.book.specs.Calls.{IsHeld, IsNamed, SayWords, Where};
 ghost use Rattle.book.specs.Rows.{Full, FullOf, GivesLines, union, lines_named, unless_lines, at};
 ghost use Rattle.book.specs.View.{view, said};
 ghost use Rattle.sets.specs.Sets.{Has};
-ghost use Rattle.std.specs.Option.{option_map};
+ghost use Rattle.std.specs.Option.{option_map, option_copied};
 
 use crate::book::Book;
 use crate::book::search::place_of;
-use crate::book::words::copy;
 use crate::rows::{HoldRow, LineRow, Rule, Wording};
 use sets::refusal::Refusal;
 
@@ -38,18 +37,14 @@ impl OfLines for HoldRow {
 }
 
 // Is the place filled? None past the end is.
-fn filled<R: Copy>(rows: &[Option<R>], place: usize) -> bool
+fn filled<R>(rows: &[Option<R>], place: usize) -> bool
     ensures { Decides result (Full rows.now place) }
 {
-    if place >= rows.len() {
-        return false;
-    }
-    let row = rows[place];
-    row.is_some()
+    rows.get(place).is_some_and(|row| row.is_some())
 }
 
 // Does some row have the line?
-fn any_has<R: OfLines + Copy>(rows: &[Option<R>], line: u32) -> bool
+fn any_has<R: OfLines>(rows: &[Option<R>], line: u32) -> bool
     ensures { Decides result (Has (union R.lines rows.now) line) }
 {
     for row in rows {
@@ -75,25 +70,12 @@ fn all_unless(rules: &[Option<Rule>]) -> u64
     all
 }
 
-// The lines that have a statement.
-fn all_written(rows: &[Option<LineRow>; 64]) -> u64
-    ensures { FullOf rows.now result }
-{
-    let mut written = 0;
-    for line in 0u32..64 {
-        if let Some(_) = rows[line as usize] {
-            written = sets::with(written, line);
-        }
-    }
-    written
-}
-
 impl Book {
     // The lines that have a statement.
     pub fn written(&self) -> u64
         ensures { FullOf (view self.now).lines result }
     {
-        all_written(&self.tables.lines)
+        sets::lines_where(|line| self.has_statement(line))
     }
 
     // The lines that stand in some unless-set.
@@ -146,15 +128,14 @@ impl Book {
         if line > 63 {
             return Err(Refusal::OutOfRange);
         }
-        let Some(row) = self.statement(line) else {
-            return Err(Refusal::Empty);
-        };
-        if buffer.len() < row.len {
+        let row = self.statement(line).ok_or(Refusal::Empty)?;
+        let len = row.words.len();
+        if buffer.len() < len {
             return Err(Refusal::BufferTooShort);
         }
-        copy(&row.words[0..row.len], buffer);
+        buffer[..len].copy_from_slice(row.words.as_slice());
         Ok(Wording {
-            len: row.len,
+            len,
             number: row.number,
         })
     }
@@ -170,20 +151,15 @@ impl Book {
     pub fn where_is(&self, number: u32) -> Option<u32>
         ensures { Where (view self.now) number result }
     {
-        match place_of(&self.tables.lines, number) {
-            Some(line) => Some(line as u32),
-            None => None,
-        }
+        let line = place_of(&self.tables.lines, number)?;
+        Some(line as u32)
     }
 
     // The statement of a line, if it has one.
-    pub fn statement(&self, line: u32) -> Option<LineRow>
-        ensures said { option_map said result ≡ at (view self.now).lines line }
-        ensures worded { (row : LineRow) → result ≡ Some row → row.len ≤ 24 }
+    pub fn statement(&self, line: u32) -> Option<&LineRow>
+        ensures said { option_map said (option_copied result) ≡ at (view self.now).lines line }
+        ensures worded { IfSome result (λ row. length row.now.words.items ≤ 24) }
     {
-        if line > 63 {
-            return None;
-        }
-        self.tables.lines[line as usize]
+        self.tables.lines.get(line as usize)?.as_ref()
     }
 }

@@ -30,7 +30,7 @@ impl Numbered for HoldRow {
 }
 
 // The place of a row with this number, if there is one.
-pub fn place_of<R: Numbered + Copy>(rows: &[Option<R>], number: u32) -> Option<usize>
+pub fn place_of<R: Numbered>(rows: &[Option<R>], number: u32) -> Option<usize>
     ensures { MatchOption result ((i : ℕ) → option_map R.numbered (at rows.now i) ≢ Some number) (λ i. (i < length rows.now) × (option_map R.numbered (at rows.now i) ≡ Some number)) }
 {
     for (i, row) in rows.iter().enumerate() {

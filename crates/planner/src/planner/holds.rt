@@ -1,7 +1,6 @@
 // Holds on menus, and saved menus.
-ghost use Rattle.laws.specs.World.{Step, held, released, saved};
-ghost use Rattle.planner.specs.View.{view, facts_of, token, hold_answer, release_answer};
-ghost use Rattle.std.specs.Prelude.{◌≡◌};
+ghost use Rattle.laws.specs.World.{held, released, saved};
+ghost use Rattle.planner.specs.View.{Does, Tells, token, hold_answer, release_answer};
 
 use crate::planner::{HandedBack, Hold, Planner};
 use facts::Facts;
@@ -11,8 +10,7 @@ use sets::refusal::Refusal;
 impl<F: Facts> Planner<F> {
     // Takes a hold on a menu. Until it is given back, none of the menu's lines can be struck.
     pub fn hold(&mut self, set: u64) -> Result<Hold, Refusal>
-        ensures step { Step (F.Facts.meaning (facts_of self.old)) (view self.old) (held set (hold_answer result)) (view self.new) }
-        ensures facts { facts_of self.new ≡ facts_of self.old }
+        ensures { Does F.Facts.meaning self.old (held set (hold_answer result)) self.new }
     {
         if self.book.holds_spent() {
             return Err(Refusal::NumbersSpent);
@@ -20,25 +18,24 @@ impl<F: Facts> Planner<F> {
         if !self.stands(set)? {
             return Err(Refusal::NoMenu);
         }
-        match self.book.hold(set) {
-            Some(number) => Ok(Hold {
-                planner: self.number,
-                number,
-            }),
-            None => Err(Refusal::HoldsFull),
-        }
+        let number = self.book.hold(set)?;
+        Ok(Hold {
+            planner: self.number,
+            number,
+        })
     }
 
     // Gives a hold back. A refusal hands it back.
     pub fn release(&mut self, hold: Hold) -> Result<(), HandedBack>
-        ensures step { Step (F.Facts.meaning (facts_of self.old)) (view self.old) (released (token hold) (release_answer result)) (view self.new) }
-        ensures facts { facts_of self.new ≡ facts_of self.old }
+        ensures { Does F.Facts.meaning self.old (released (token hold) (release_answer result)) self.new }
     {
-        if hold.planner != self.number || !self.book.release(hold.number) {
-            return Err(HandedBack {
-                refusal: Refusal::NotOut,
-                hold,
-            });
+        let given_back = if hold.planner == self.number {
+            self.book.release(hold.number)
+        } else {
+            Err(Refusal::NotOut)
+        };
+        if let Err(refusal) = given_back {
+            return Err(HandedBack { refusal, hold });
         }
         let Hold {
             planner: _,
@@ -49,18 +46,13 @@ impl<F: Facts> Planner<F> {
 
     // Writes the record of a hold's menu, its lines with their numbers, to the buffer's start, and answers how many bytes it is.
     pub fn save(&self, hold: &Hold, buffer: &mut [u8]) -> Result<usize, Refusal>
-        ensures { Step (F.Facts.meaning (facts_of self.now)) (view self.now) (saved (token hold.now) buffer.old buffer.new result) (view self.now) }
+        ensures { Tells F.Facts.meaning self.now (saved (token hold.now) buffer.old buffer.new result) }
     {
         if hold.planner != self.number {
             return Err(Refusal::NotOut);
         }
-        let Some(lines) = self.book.held(hold.number) else {
-            return Err(Refusal::NotOut);
-        };
+        let lines = self.book.held(hold.number).ok_or(Refusal::NotOut)?;
         let entries = self.book.entries(lines);
-        match write(entries.as_slice(), buffer) {
-            Some(length) => Ok(length),
-            None => Err(Refusal::BufferTooShort),
-        }
+        write(entries.as_slice(), buffer).ok_or(Refusal::BufferTooShort)
     }
 }

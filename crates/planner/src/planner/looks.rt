@@ -1,7 +1,7 @@
 // Looking at a record.
 ghost use Rattle.book.specs.Calls.{number_at};
-ghost use Rattle.laws.specs.World.{Parted, Step, looked};
-ghost use Rattle.planner.specs.View.{view, facts_of};
+ghost use Rattle.laws.specs.World.{Parted, looked};
+ghost use Rattle.planner.specs.View.{Tells, view};
 ghost use Rattle.record.specs.Record.{Rising};
 ghost use Rattle.std.specs.Prelude.{◌≡◌, Some, Decides};
 
@@ -15,7 +15,7 @@ use record::read::read;
 impl<F: Facts> Planner<F> {
     // Reads a record by its numbers: which of its lines have that very number now, and which have not.
     pub fn look(&self, bytes: &[u8]) -> Result<Looked, Fault>
-        ensures { Step (F.Facts.meaning (facts_of self.now)) (view self.now) (looked bytes.now result) (view self.now) }
+        ensures { Tells F.Facts.meaning self.now (looked bytes.now result) }
     {
         let entries = read(bytes, self.book.next_number())?;
         Ok(self.part(entries.as_slice()))
@@ -42,9 +42,8 @@ impl<F: Facts> Planner<F> {
     fn has_now(&self, entry: Entry) -> bool
         ensures { Decides result (number_at (view self.now).book entry.line ≡ Some entry.number) }
     {
-        match self.book.statement(entry.line) {
-            Some(row) => row.number == entry.number,
-            None => false,
-        }
+        self.book
+            .statement(entry.line)
+            .is_some_and(|row| row.number == entry.number)
     }
 }

@@ -29,7 +29,7 @@ loop-line-preserved c =
     let is : (x : Entries) → c.if-has.entries ≡ x → Gathered (view b) lines (line + 1) (listed x) → Gathered (view b) lines (line + 1) (listed c.if-has.entries) = λ x e. subst (λ y. Gathered (view b) lines (line + 1) (listed y)) (sym e) in
     elim c.if-has.branch [
       | then-has+in-Some w ↦
-          let row = w.in-Some.row in
+          let row = w.in-Some.row.now in
           let numbered = ap (option_map (λ s. s.number)) (sym w.in-Some.ensures.said) in
           let few = gathered_few (view b) lines line es so (omega arith) in
           let added = pushed es _ (listed w.push.new.self) w.push.result few w.push.ensures in

@@ -1,19 +1,30 @@
-use Rattle.std.proofs.Common.{◌<◌, ◌≤◌, [], ◌∷◌, is_some, None, sym, refl, ap, ◌∙◌}
+use Rattle.std.proofs.Common.{◌≡◌, ◌<◌, ◌≤◌, [], ◌∷◌, length, is_some, Some, None, Err, rules, sym, refl, ap, ◌∙◌, subst, inl}
+use Rattle.sets.specs.declared.refusal.Refusal.TheVariants.{NotOut}
+use Rattle.book.specs.Holds.{GiveBack}
+use Rattle.std.specs.Option.{option_map}
+use Rattle.book.specs.Rows.{at}
+use Rattle.book.specs.declared.rows.HoldRow.{HoldRow}
+use Rattle.book.specs.View.{view}
 use Rattle.std.proofs.lemmas.List.{length-set}
 use Rattle.book.specs.Contents.{Held}
 use Rattle.book.proofs.Keeping.{all_kept, lines_kept, rules_kept, distinct_cleared, each_cleared, on_lines_cleared}
 use Rattle.book.proofs.Tables.{not_full}
-use Rattle.book.proofs.Holding.{out_none, out_found, seen_returned}
+use Rattle.book.proofs.Holding.{NoRow, out_none, out_found, seen_returned}
 use Rattle.book.proofs.book.Book.release.Goals as goal
 
-pub returns-in_default : goal.returns-in_default
-returns-in_default c = (λ out. not_full {X = Held} (None ∷ []) 0 refl (sym (ap is_some (out_none c.args.self.now.tables.holds c.args.number c.in_default.ensures)) ∙ out), refl)
+pub returns-in_err-place : goal.returns-in_err-place
+returns-in_err-place c =
+    let b = c.args.self.now in
+    let none : NoRow b.tables.holds c.args.number = search rules in
+    let refused : c.from_residual.result ≡ Err NotOut = search rules in
+    subst (λ r. GiveBack (view b) c.args.number r (view b)) (sym refused)
+    (inl ((λ out. not_full {X = Held} (None ∷ []) 0 refl (sym (ap is_some (out_none b.tables.holds c.args.number none)) ∙ out)), refl), refl)
 
 pub invariant_of-self : goal.invariant_of-self
 invariant_of-self c =
     let b = c.args.self.now in
     let t = b.tables in
-    let k = c.in-Some.place in
+    let k = c.in_ok-place.place in
     all_kept _ _ _ _ _ (lines_kept b) (rules_kept b)
     (record {
       places = length-set t.holds k None ∙ b.hold_places;
@@ -27,5 +38,6 @@ pub returns : goal.returns
 returns c =
     let b = c.args.self.now in
     let t = b.tables in
-    let here = c.in-Some.ensures.1 in
-    (ap is_some (out_found t.holds c.in-Some.place c.args.number b.holds_distinct here).2, seen_returned t c.in-Some.place c.args.number b.holds_distinct here)
+    let k = c.in_ok-place.place in
+    let here : (k < length t.holds) × (option_map (λ (h : HoldRow). h.number) (at t.holds k) ≡ Some c.args.number) = search rules in
+    (((λ gone. gone (ap is_some (out_found t.holds k c.args.number b.holds_distinct here.1).2)), tt), seen_returned t k c.args.number b.holds_distinct here.1)

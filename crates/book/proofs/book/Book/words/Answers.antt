@@ -1,22 +1,17 @@
-use Rattle.std.proofs.Common.{◌≡◌, ◌-◌, ◌++◌, length, take, drop, is_some, sym, refl, ap, ◌∙◌, arith}
-use Rattle.book.specs.View.{said}
+use Rattle.std.proofs.Common.{◌≡◌, ◌++◌, length, drop, is_some, Some, rules, sym, refl, ap, ◌∙◌, arith}
+use Rattle.book.specs.Rows.{at}
+use Rattle.book.specs.View.{said, view}
 use Rattle.sets.proofs.Rows.{some_same}
-use Rattle.std.proofs.lemmas.List.{length-take-le}
 use Rattle.book.proofs.book.Book.words.Goals as goal
 
 pub returns : goal.returns
 returns c =
-    let row = c.in-Some.row in
-    let here = sym c.in-Some.ensures.said in
-    let few = c.in-Some.ensures.worded row refl in
-    let long : length (take row.len row.words) ≡ row.len = length-take-le row.len row.words (omega arith) in
-    let cut : row.len - 0 ≡ row.len = omega arith in (
-      (omega arith, ((λ empty. empty (ap is_some here)), ((λ short. omega (arith, short.2, ap (λ s. length s.words) (some_same (sym short.1 ∙ here)))), tt))),
-      record {
-        statement = said row;
-        here = here;
-        length_is = sym long;
-        number_is = refl;
-        bytes = c.copy.ensures (omega (arith, long, ap (λ n. length (take n row.words)) cut)) ∙ ap (λ n. take n row.words ++ drop (length (take n row.words)) c.args.buffer.now) cut ∙ ap (λ n. take row.len row.words ++ drop n c.args.buffer.now) long;
-      },
+    let row = c.in_ok-row.row.now in
+    let line = c.args.line in
+    let buffer = c.args.buffer.now in
+    let here : at (view c.args.self.now).lines line ≡ Some (said row) = search rules in
+    let long : c.len-len.result ≡ length row.words.items = search rules in
+    let bytes : c.copy_from_slice.new.self ≡ row.words.items = search rules in (
+      (omega arith, ((λ empty. empty (ap is_some here)), ((λ short. omega (arith, short.2, long, ap (λ s. length s.words) (some_same (sym short.1 ∙ here)))), tt))),
+      record { statement = said row; here = here; length_is = long; number_is = refl; bytes = ap (λ front. front ++ drop c.len-len.result buffer) bytes },
     )

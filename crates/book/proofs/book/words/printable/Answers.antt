@@ -1,15 +1,19 @@
-use Rattle.std.proofs.Common.{refl, subst, arith, take_all}
-use Rattle.std.specs.List.{AllByRecursion}
-use Rattle.std.proofs.ByRecursion.{All-get_or, All-more}
+use Rattle.std.proofs.Common.{◌≡◌, ℕ, ◌≤◌, Bool, rules, tests, ltb, ◌&&◌, not, refl, arith}
+use Rattle.std.specs.List.{list_all}
+use Rattle.std.proofs.lemmas.Bool.Decides.{Decides-at, Decides-and, Decides-not, Decides-ltb, Decides-like}
+use Rattle.std.proofs.lemmas.Iterator.{YieldsList-from_slice}
+use Rattle.std.proofs.lemmas.Iterator.Search.{all_from_yields_List}
+use Rattle.std.proofs.ByRecursion.{Decides-by_and}
 use Rattle.book.proofs.book.words.printable.Goals as goal
 
-pub loop-byte-preserved : goal.loop-byte-preserved
-loop-byte-preserved c = All-more _ c.args.words.now c.loop-byte.byte-index 0 c.loop-byte-test.true c.loop-byte.invariant (c.if-byte-lt-FIRST_PRINTED.false, c.if-byte-gt-LAST_PRINTED.false)
-
--- a byte was found that is not printable
-pub returns-then-byte-lt-FIRST_PRINTED : goal.returns-then-byte-lt-FIRST_PRINTED
-returns-then-byte-lt-FIRST_PRINTED c =
-    (λ e. grind arith, λ all. absurd (omega (arith, All-get_or _ c.args.words.now c.loop-byte.byte-index 0 c.loop-byte-test.true all)))
+abbrev test : ℕ → Bool
+test b = not (ltb b 33) && not (ltb 126 b)
 
 pub returns : goal.returns
-returns c = (λ _. subst (AllByRecursion _) (take_all _ _ c.loop-byte-test.false) c.loop-byte.invariant, λ _. refl)
+returns c =
+    let every : c.all.result ≡ list_all test c.args.words.now =
+    all_from_yields_List _ _ _ _ c.all.ensures.ran (YieldsList-from_slice c.args.words.now cc) (λ x b q k. search (rules, tests)) in
+    Decides-at c.all.result _ every
+    (Decides-by_and test (λ b. (33 ≤ b) × (b ≤ 126)) (list_all test)
+    (λ b. Decides-like _ (λ l. (omega (arith, l.0), omega (arith, l.1))) (λ l. ((λ m. omega (arith, l.0)), λ m. omega (arith, l.1))) (Decides-and _ _ (Decides-not _ (Decides-ltb b 33)) (Decides-not _ (Decides-ltb 126 b))))
+    refl (λ _ _. refl) c.args.words.now)

@@ -1,4 +1,4 @@
-use Rattle.std.proofs.Common.{refl, subst}
+use Rattle.std.proofs.Common.{refl, subst, subst₂}
 use Rattle.std.proofs.lemmas.Bool.Decides.{not_from_Decides, Decides-eqb}
 use Rattle.sets.specs.Sets.{Smallest}
 use Rattle.sets.proofs.Lines.{smallest_same}
@@ -10,7 +10,7 @@ returns g c =
     let p = c.args.self.now in
     let m = g.F.Facts.meaning p.facts in
     let set = c.args.set in
-    let least = subst (λ rules. Smallest (Closed m rules set) c.close-least.result) c.rules.ensures.same c.close-least.ensures in
+    let least = subst₂ (λ f rules. Smallest (Closed (g.F.Facts.meaning f) rules set) c.close-least.result) c.new.ensures.facts c.new.ensures.rules c.close-least.ensures in
     let decides = Decides-eqb c.close-least.result set in (
       refl,
       (

@@ -1,7 +1,7 @@
 use Rattle.facts.specs.Closure.{Passed}
 use Rattle.planner.proofs.Rounds.{ObeysBelow}
-use Rattle.planner.proofs.tries.round.Given as goal
+use Rattle.planner.proofs.tries.Tries.round.Given as goal
 
 -- the rules so far were gone through
 abbrev pub invariant-loop-row : goal.invariant-loop-row
-invariant-loop-row l = Passed (ObeysBelow l.rules l.guess l.row-index) l.initial.set l.set
+invariant-loop-row g l = Passed (ObeysBelow l.self.rules.now l.guess l.row-index) l.initial.set l.set
