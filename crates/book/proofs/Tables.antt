@@ -1,12 +1,13 @@
 -- Tables of optional rows: what one write changes, the lines of all rows together, and how tables are seen.
-use Rattle.std.proofs.Common.{◌≡◌, ℕ, zero, suc, ◌+◌, ◌<◌, Bool, true, false, cond, ltb, ◌⊎◌, List, [], ◌∷◌, map, length, drop, get_or, set, replicate, is_none, is_some, Some, None, Option, sym, refl, ap, ◌∙◌, subst, inl, inr, ⊎_elim, arith}
+use Rattle.std.proofs.Common.{◌≡◌, ◌≢◌, ℕ, zero, suc, ◌+◌, ◌<◌, Bool, true, false, cond, eqb, ltb, ◌⊎◌, List, [], ◌∷◌, map, length, drop, get_or, set, replicate, is_none, is_some, Some, None, Option, sym, refl, ap, ◌∙◌, subst, inl, inr, ⊎_elim, arith}
 use native.Mathlib.Decide.{dec_lt, ℕ_discrete}
 use lib.Bits.{bit_or}
 use Rattle.std.proofs.lemmas.List.{get_or-set_same, get_or-set_other, get_or_past, set_past, drop_more}
+use Rattle.std.specs.Bool.{Decides, MatchBool}
 use Rattle.std.specs.Option.{option_map, MatchOption}
 use Rattle.std.specs.Array.{AllOfLen}
-use Rattle.std.specs.List.{position, position_or_len}
-use Rattle.std.proofs.lemmas.Bool.Decides.{Decides-ltb, not_from_Decides}
+use Rattle.std.specs.List.{position, position_or_len, AllWithin, HoldsAt}
+use Rattle.std.proofs.lemmas.Bool.Decides.{Decides-eqb, Decides-ltb, not_from_Decides}
 use Rattle.std.proofs.lemmas.List.Sums.{passes_at_first, fails_before_first}
 use Rattle.sets.specs.Sets.{Has, Within}
 use Rattle.sets.proofs.Lines.{or_has, or_has_left, or_has_right, or_group, none_has}
@@ -60,6 +61,28 @@ free_first {X = X} rows = by (position is_none rows) (position_tells is_none row
     by : (r : Option ℕ) → MatchOption r ((i : ℕ) → i < length rows → is_none (at rows i) ≡ false) (λ i. (i < length rows) × (is_none (at rows i) ≡ true)) → MatchOption r ((i : ℕ) → i < length rows → Full rows i) (λ i. (i < length rows) × (at rows i ≡ None))
     by None all = λ i lt. some (at rows i) (all i lt)
     by (Some i) here = (here.0, none (at rows i) here.1)
+
+-- the row has this number
+abbrev pub numbered_test : {X : Type 0} → (X → ℕ) → ℕ → Option X → Bool
+numbered_test number n None = false
+numbered_test number n (Some x) = eqb (number x) n
+
+-- the first row with this number, or no row has it
+pub numbered_first : {X : Type 0} (number : X → ℕ) (n : ℕ) (rows : List (Option X))
+    → MatchOption (position (numbered_test number n) rows) ((i : ℕ) → option_map number (at rows i) ≢ Some n) (λ i. (i < length rows) × (option_map number (at rows i) ≡ Some n))
+numbered_first {X = X} number n rows = by (position (numbered_test number n) rows) (position_tells (numbered_test number n) rows None)
+  where
+    has : (o : Option X) → numbered_test number n o ≡ true → option_map number o ≡ Some n
+    has None e = grind arith
+    has (Some x) e = ap Some ((Decides-eqb (number x) n).0 e)
+
+    lacks : (o : Option X) → numbered_test number n o ≡ false → option_map number o ≢ Some n
+    lacks None e f = no_some f
+    lacks (Some x) e f = not_from_Decides (eqb (number x) n) (Decides-eqb (number x) n) e (some_same f)
+
+    by : (r : Option ℕ) → MatchOption r ((i : ℕ) → i < length rows → numbered_test number n (at rows i) ≡ false) (λ i. (i < length rows) × (numbered_test number n (at rows i) ≡ true)) → MatchOption r ((i : ℕ) → option_map number (at rows i) ≢ Some n) (λ i. (i < length rows) × (option_map number (at rows i) ≡ Some n))
+    by None all = λ i e. elim (dec_lt i (length rows)) [ yes lt ↦ lacks (at rows i) (all i lt) e | no past ↦ no_some (sym (ap (option_map number) (get_or_past rows i None (omega arith))) ∙ e) ]
+    by (Some i) here = (here.0, has (at rows i) here.1)
 
 -- a table of so many rows that are all empty
 nones : {X : Type 0} (rows : List (Option X)) (n : ℕ) → length rows ≡ n → ((i : ℕ) → i < n → at rows i ≡ None) → rows ≡ replicate n None
@@ -163,3 +186,17 @@ module _ {X : Type 0} (lines : X → ℕ) where
   union_unset rows i n h =
       let r = union_has (set rows i None) n h in
       ⊎_elim (λ new. absurd (no_some (sym new.0 ∙ r.2))) (λ old. union_at rows r.0 n r.1 (sym old ∙ r.2) r.3) (at_set rows i r.0 None)
+
+-- the row has the line, and it does not
+abbrev pub RowHas : {X : Type 0} → (X → ℕ) → ℕ → Option X → Type 0
+RowHas {X = X} lines line row = (x : X) × (row ≡ Some x) × Has (lines x) line
+
+abbrev pub RowLacks : {X : Type 0} → (X → ℕ) → ℕ → Option X → Type 0
+RowLacks {X = X} lines line row = (x : X) → row ≡ Some x → Has (lines x) line → ⊥
+
+-- some row has the line, or none has it
+pub any_row_has : {X : Type 0} (lines : X → ℕ) (line : ℕ) (rows : List (Option X)) (r : Bool)
+    → MatchBool r ((k : ℕ) × (k < length rows) × HoldsAt (RowHas lines line) rows k) (AllWithin (RowLacks lines line) rows 0 (length rows)) → Decides r (Has (union lines rows) line)
+any_row_has lines line rows true found = ((λ _. let row = found.2 None in union_at lines rows found.0 line row.0 row.1 row.2), λ _. refl)
+any_row_has lines line rows false none =
+    ((λ e. grind arith), λ h. let row = union_has lines rows line h in absurd (none row.0 None (omega arith) (full_below rows row.0 (ap is_some row.2)) row.1 row.2 row.3))

@@ -47,14 +47,8 @@ fn filled<R>(rows: &[Option<R>], place: usize) -> bool
 fn any_has<R: OfLines>(rows: &[Option<R>], line: u32) -> bool
     ensures { Decides result (Has (union R.lines rows.now) line) }
 {
-    for row in rows {
-        if let Some(one) = row {
-            if one.has(line) {
-                return true;
-            }
-        }
-    }
-    false
+    rows.iter()
+        .any(|row| row.as_ref().is_some_and(|one| one.has(line)))
 }
 
 // The lines of all unless-sets together.

@@ -33,12 +33,5 @@ impl Numbered for HoldRow {
 pub fn place_of<R: Numbered>(rows: &[Option<R>], number: u32) -> Option<usize>
     ensures { MatchOption result ((i : ℕ) → option_map R.numbered (at rows.now i) ≢ Some number) (λ i. (i < length rows.now) × (option_map R.numbered (at rows.now i) ≡ Some number)) }
 {
-    for (i, row) in rows.iter().enumerate() {
-        if let Some(one) = row {
-            if one.number() == number {
-                return Some(i);
-            }
-        }
-    }
-    None
+    rows.iter().position(|row| row.as_ref().is_some_and(|one| one.number() == number))
 }

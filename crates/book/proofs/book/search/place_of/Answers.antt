@@ -1,29 +1,17 @@
-use Rattle.std.proofs.Common.{Some, None, sym, ap, ◌∙◌, arith, below_more}
-use Rattle.std.proofs.lemmas.List.{get_or_read}
-use Rattle.std.specs.Option.{option_map}
-use Rattle.sets.proofs.Rows.{no_some, some_same}
-use Rattle.book.proofs.Tables.{full_below, full_from_number}
+use Rattle.std.proofs.Common.{◌≡◌, ◌≢◌, ℕ, ◌<◌, length, Some, rules, tests, sym, subst}
+use Rattle.std.specs.List.{position}
+use Rattle.std.specs.Option.{option_map, MatchOption}
+use Rattle.std.proofs.lemmas.Iterator.{YieldsList-from_slice}
+use Rattle.std.proofs.lemmas.Iterator.Search.{position_from_yields_List}
+use Rattle.book.specs.Rows.{at}
+use Rattle.book.proofs.Tables.{numbered_test, numbered_first}
 use Rattle.book.proofs.book.search.place_of.Goals as goal
-use Rattle.book.proofs.book.search.place_of.Goals.{in-Some+else-number, in_default}
-
-pub returns-then-number : goal.returns-then-number
-returns-then-number g c =
-    let rows = c.args.rows.now in
-    let numbered = g.R.Numbered.numbered in
-    let here = sym (get_or_read rows c.loop-i.i c.index-rows-i.result c.loop-i-test.true c.index-rows-i.is None) ∙ c.in-Some.is in
-    (c.loop-i-test.true, ap (option_map numbered) here ∙ ap Some (sym c.number.ensures ∙ c.if-number.true))
-
-pub loop-i-preserved : goal.loop-i-preserved
-loop-i-preserved g c =
-    let rows = c.args.rows.now in
-    let numbered = g.R.Numbered.numbered in
-    let read = sym (get_or_read rows c.loop-i.i c.index-rows-i.result c.loop-i-test.true c.index-rows-i.is None) in
-    below_more _ _ c.loop-i.invariant
-    (λ e. elim c.match-row.branch [
-      | in-Some+else-number w ↦ w.if-number.false (w.number.ensures ∙ some_same (sym (ap (option_map numbered) (read ∙ w.in-Some.is)) ∙ e))
-      | in_default w ↦ no_some (sym (ap (option_map numbered) (read ∙ w.in_default.is)) ∙ e)
-    ])
 
 pub returns : goal.returns
-returns g c i e =
-    c.loop-i.invariant i (let lt = full_below c.args.rows.now i (full_from_number g.R.Numbered.numbered c.args.rows.now i c.args.number e) in omega arith) e
+returns g c =
+    let rows = c.args.rows.now in
+    let numbered = g.R.Numbered.numbered in
+    let n = c.args.number in
+    let first : c.position.result ≡ position (numbered_test numbered n) rows =
+    position_from_yields_List _ _ _ _ c.position.ensures.ran (YieldsList-from_slice rows cc) (λ x b q k. search (rules, tests)) in
+    subst (λ r. MatchOption r ((i : ℕ) → option_map numbered (at rows i) ≢ Some n) (λ i. (i < length rows) × (option_map numbered (at rows i) ≡ Some n))) (sym first) (numbered_first numbered n rows)
