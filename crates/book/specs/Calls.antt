@@ -6,7 +6,7 @@ use Rattle.sets.specs.Sets.{Has}
 use Rattle.sets.specs.Grounds.{Ground, Answered}
 use Rattle.sets.specs.declared.refusal.Refusal.{Refusal}
 use Rattle.sets.specs.declared.refusal.Refusal.TheVariants.{OutOfRange, Filled, BadWords, NumbersSpent, Empty, Held, Named, TooManyUnless, BufferTooShort}
-use Rattle.book.specs.Rows.{at, Full, Vacant, lines_named, rule_lines, unless_lines}
+use Rattle.book.specs.Rows.{at, Full, Vacant, AnyVacant, lines_named, rule_lines, unless_lines}
 use Rattle.book.specs.Kept.{last_number, most_unless}
 use Rattle.book.specs.Contents.{Contents, Statement, Held as OutHold}
 use Rattle.book.specs.declared.rows.Rule.{Rule}
@@ -73,7 +73,7 @@ Strike named c line answer after =
 
 -- the rule names an empty line
 abbrev pub NamesVacant : Contents → Rule → Type 0
-NamesVacant c rule = (n : ℕ) × Has (lines_named rule) n × Vacant c.lines n
+NamesVacant c rule = AnyVacant c.lines (lines_named rule)
 
 abbrev pub rule_grounds : Contents → ℕ → Rule → List Ground
 rule_grounds c place rule =

@@ -1,10 +1,9 @@
 -- The holds that are out: how many, taking one, and giving it back.
 use Rattle.std.specs.Prelude.{◌≡◌, ℕ, zero, suc, ◌+◌, ◌<◌, ◌≤◌, Bool, true, cond, List, [], ◌∷◌, is_some, Some, None, Option, Result, ◌==◌}
-use Rattle.sets.specs.Sets.{Has}
 use Rattle.sets.specs.Grounds.{Ground, Answered}
 use Rattle.sets.specs.declared.refusal.Refusal.{Refusal}
 use Rattle.sets.specs.declared.refusal.Refusal.TheVariants.{NumbersSpent, Empty, HoldsFull, NotOut}
-use Rattle.book.specs.Rows.{Vacant}
+use Rattle.book.specs.Rows.{AnyVacant}
 use Rattle.book.specs.Kept.{last_number}
 use Rattle.book.specs.Contents.{Contents, Held}
 
@@ -53,7 +52,7 @@ without_hold c number = record {
 abbrev pub hold_grounds : Contents → ℕ → List Ground
 hold_grounds c lines =
     record { gives = NumbersSpent; when = last_number < c.next_hold }
-    ∷ record { gives = Empty; when = (n : ℕ) × Has lines n × Vacant c.lines n }
+    ∷ record { gives = Empty; when = AnyVacant c.lines lines }
     ∷ record { gives = HoldsFull; when = most_out ≤ out_count c }
     ∷ []
 

@@ -15,6 +15,10 @@ Full rows i = is_some (at rows i) ≡ true
 abbrev pub Vacant : {X : Type 0} → List (Option X) → ℕ → Type 0
 Vacant rows i = Full rows i → ⊥
 
+-- one of these lines is empty
+abbrev pub AnyVacant : {X : Type 0} → List (Option X) → ℕ → Type 0
+AnyVacant rows s = (n : ℕ) × Has s n × Vacant rows n
+
 -- every line that a rule names: in its needs, in its unless-set, or given
 abbrev pub lines_named : Rule → ℕ
 lines_named r = bit_or (bit_or r.needs r.unless) (2 ^ r.gives)

@@ -9,7 +9,7 @@ use Rattle.record.specs.Record.{Good, edition, encode}
 use Rattle.record.specs.Faults.{FaultIn}
 use Rattle.record.specs.declared.fault.Fault.{Fault}
 use Rattle.record.specs.declared.entries.Entry.{Entry}
-use Rattle.book.specs.Rows.{Full, Vacant, unless_lines}
+use Rattle.book.specs.Rows.{Full, AnyVacant, unless_lines}
 use Rattle.book.specs.Kept.{last_number}
 use Rattle.book.specs.Contents.{Contents, Held, empty_book}
 use Rattle.book.specs.Calls.{Write, Strike, PutRule, Unrule, SayWords, Where, number_at}
@@ -72,7 +72,7 @@ pub data Event : Type 0 where
 
 -- the facts name an empty line
 abbrev pub NameEmpty : Meaning → World → Type 0
-NameEmpty m w = (n : ℕ) × Has m.names n × Vacant w.book.lines n
+NameEmpty m w = AnyVacant w.book.lines m.names
 
 abbrev pub facts_ground : Meaning → World → Ground
 facts_ground m w = record { gives = FactsNameEmpty; when = NameEmpty m w }

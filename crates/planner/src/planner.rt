@@ -111,7 +111,7 @@ impl<F: Facts> Planner<F> {
     fn facts_name_empty(&self) -> bool
         ensures { Decides result (NameEmpty (F.Facts.meaning (facts_of self.now)) (view self.now)) }
     {
-        !sets::within(self.facts.names(), self.book.written())
+        self.book.any_vacant(self.facts.names())
     }
 
     // Is this set a menu?

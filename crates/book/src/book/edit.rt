@@ -1,6 +1,6 @@
 // The calls that edit a book.
-ghost use Rattle.std.specs.Prelude.{◌≡◌, ◌<◌, Decides};
-ghost use Rattle.book.specs.Calls.{NamesVacant, Write, Strike, PutRule, Unrule};
+ghost use Rattle.std.specs.Prelude.{◌≡◌, ◌<◌};
+ghost use Rattle.book.specs.Calls.{Write, Strike, PutRule, Unrule};
 ghost use Rattle.book.specs.Contents.{empty_book};
 ghost use Rattle.book.specs.Rows.{lines_named};
 ghost use Rattle.book.specs.View.{view};
@@ -94,7 +94,7 @@ impl Book {
         if self.has_rule(place) {
             return Err(Refusal::Filled);
         }
-        if self.names_vacant(&rule) {
+        if self.any_vacant(lines_named(&rule)) {
             return Err(Refusal::Empty);
         }
         let unless = self.unless_lines() | rule.unless;
@@ -103,14 +103,6 @@ impl Book {
         }
         self.tables.rules[place as usize] = Some(rule);
         Ok(())
-    }
-
-    // Does the rule name an empty line?
-    fn names_vacant(&self, rule: &Rule) -> bool
-        requires { rule.now.gives < 64 }
-        ensures { Decides result (NamesVacant (view self.now) rule.now) }
-    {
-        !sets::within(lines_named(rule), self.written())
     }
 
     // Empties a place.

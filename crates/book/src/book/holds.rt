@@ -35,7 +35,7 @@ impl Book {
         if self.holds_spent() {
             return Err(Refusal::NumbersSpent);
         }
-        if !sets::within(lines, self.written()) {
+        if self.any_vacant(lines) {
             return Err(Refusal::Empty);
         }
         let place = free_place(&self.tables.holds).ok_or(Refusal::HoldsFull)?;

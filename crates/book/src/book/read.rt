@@ -1,7 +1,7 @@
 // What a book answers about itself.
 ghost use Rattle.std.specs.Prelude.{◌≡◌, ℕ, ◌≤◌, Decides, IfSome, length};
 ghost use Rattle.book.specs.Calls.{IsHeld, IsNamed, SayWords, Where};
-ghost use Rattle.book.specs.Rows.{Full, FullOf, GivesLines, union, lines_named, unless_lines, at};
+ghost use Rattle.book.specs.Rows.{AnyVacant, Full, FullOf, GivesLines, union, lines_named, unless_lines, at};
 ghost use Rattle.book.specs.View.{view, said};
 ghost use Rattle.sets.specs.Sets.{Has};
 ghost use Rattle.std.specs.Option.{option_map, option_copied};
@@ -84,6 +84,13 @@ impl Book {
         ensures { Decides result (Full (view self.now).lines line) }
     {
         filled(&self.tables.lines, line as usize)
+    }
+
+    // Is one of these lines empty?
+    pub fn any_vacant(&self, lines: u64) -> bool
+        ensures { Decides result (AnyVacant (view self.now).lines lines) }
+    {
+        !sets::within(lines, self.written())
     }
 
     // Does the place have a rule?

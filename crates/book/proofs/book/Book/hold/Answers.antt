@@ -2,23 +2,19 @@ use Rattle.std.proofs.Common.{◌≡◌, ℕ, ◌<◌, length, None, Err, rules,
 use Rattle.std.proofs.lemmas.List.{length-set}
 use Rattle.std.proofs.lemmas.Bool.Decides.{not_from_Decides}
 use Rattle.sets.specs.declared.refusal.Refusal.TheVariants.{HoldsFull}
-use Rattle.sets.proofs.Lines.{outside_from_not_within}
 use Rattle.book.specs.Holds.{TakeHold}
 use Rattle.book.specs.Rows.{at, Full}
 use Rattle.book.specs.View.{said, view}
-use Rattle.book.proofs.Tables.{full_map}
-use Rattle.book.proofs.Keeping.{all_kept, lines_kept, rules_kept, distinct_written, given_written, on_lines_written}
+use Rattle.book.proofs.Keeping.{all_kept, lines_kept, rules_kept, distinct_written, given_written, on_lines_written, full_unless_vacant}
 use Rattle.book.proofs.Holding.{out_filled, filled_all, filled_free, seen_taken}
 use Rattle.book.proofs.book.Book.hold.Goals as goal
 
 pub returns-then-holds_spent : goal.returns-then-holds_spent
 returns-then-holds_spent c = (inl (c.holds_spent.ensures.0 c.if-holds_spent.true, refl), refl)
 
-pub returns-then-not-within : goal.returns-then-not-within
-returns-then-not-within c =
-    let line = outside_from_not_within c.args.lines c.written.result (not_from_Decides c.within.result c.within.ensures c.if-not-within.true) in
-    let spent = not_from_Decides c.holds_spent.result c.holds_spent.ensures c.if-holds_spent.false in
-    (inr (spent, inl ((line.0, line.1, λ full. line.2 ((c.written.ensures line.0).1 full)), refl)), refl)
+pub returns-then-any_vacant : goal.returns-then-any_vacant
+returns-then-any_vacant c =
+    (inr (not_from_Decides c.holds_spent.result c.holds_spent.ensures c.if-holds_spent.false, inl (c.any_vacant.ensures.0 c.if-any_vacant.true, refl)), refl)
 
 pub returns-in_err-place : goal.returns-in_err-place
 returns-in_err-place c =
@@ -28,9 +24,9 @@ returns-in_err-place c =
     let none : (i : ℕ) → i < length t.holds → Full t.holds i = search rules in
     let all = filled_all t.holds none in
     let spent = not_from_Decides c.holds_spent.result c.holds_spent.ensures c.if-holds_spent.false in
-    let within = c.within.ensures.0 c.if-not-within.false in
+    let full = not_from_Decides c.any_vacant.result c.any_vacant.ensures c.if-any_vacant.false in
     subst (λ r. TakeHold (view b) c.args.lines r (view b)) (sym refused)
-    (inr (spent, inr ((λ line. line.2 ((c.written.ensures line.0).0 (within line.0 line.1))), inl (omega (arith, out_filled t.holds t.next_hold b.holds_distinct b.holds_given, all, b.hold_places), refl))), refl)
+    (inr (spent, inr (full, inl (omega (arith, out_filled t.holds t.next_hold b.holds_distinct b.holds_given, all, b.hold_places), refl))), refl)
 
 pub invariant_of-self : goal.invariant_of-self
 invariant_of-self c =
@@ -43,7 +39,7 @@ invariant_of-self c =
       next_in_range = omega (arith, not_from_Decides c.holds_spent.result c.holds_spent.ensures c.if-holds_spent.false);
       distinct = distinct_written (λ h. h.number) t.holds k t.next_hold _ b.holds_distinct b.holds_given refl;
       given = given_written (λ h. h.number) t.holds k t.next_hold _ b.holds_given refl b.next_hold_in_range.0;
-      on_lines = on_lines_written (λ h. h.lines) t.holds t.lines k _ b.holds_on_lines (λ n h. sym (full_map said t.lines n) ∙ (c.written.ensures n).0 (c.within.ensures.0 c.if-not-within.false n h));
+      on_lines = on_lines_written (λ h. h.lines) t.holds t.lines k _ b.holds_on_lines (λ n h. full_unless_vacant said t.lines n (λ empty. not_from_Decides c.any_vacant.result c.any_vacant.ensures c.if-any_vacant.false (n, h, empty)));
     })
 
 pub returns : goal.returns
@@ -55,7 +51,7 @@ returns c =
     let out = out_filled t.holds t.next_hold b.holds_distinct b.holds_given in
     let less = filled_free t.holds k free.0 free.1 in
     let spent = not_from_Decides c.holds_spent.result c.holds_spent.ensures c.if-holds_spent.false in
-    let within = c.within.ensures.0 c.if-not-within.false in (
-      (spent, ((λ line. line.2 ((c.written.ensures line.0).0 (within line.0 line.1))), ((λ most. omega (arith, out, less, b.hold_places)), tt))),
+    let full = not_from_Decides c.any_vacant.result c.any_vacant.ensures c.if-any_vacant.false in (
+      (spent, (full, ((λ most. omega (arith, out, less, b.hold_places)), tt))),
       (refl, seen_taken t k _ free.0 free.1 b.holds_given refl),
     )

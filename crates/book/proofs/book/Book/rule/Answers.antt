@@ -1,10 +1,10 @@
-use Rattle.std.proofs.Common.{◌≤◌, ◌∙◌, subst}
+use Rattle.std.proofs.Common.{◌≤◌, Decides, ◌∙◌, subst}
 use lib.Bits.{bit_or}
 use lib.Count.{ones}
 use Rattle.std.proofs.lemmas.List.{length-set}
 use Rattle.std.proofs.lemmas.Bool.Decides.{not_from_Decides}
-use Rattle.book.specs.Rows.{lines_named}
-use Rattle.book.specs.View.{said}
+use Rattle.book.specs.Rows.{AnyVacant, lines_named}
+use Rattle.book.specs.View.{said, view}
 use Rattle.book.proofs.Keeping.{all_kept, lines_kept, holds_kept, on_lines_written, few_written, full_unless_vacant}
 use Rattle.book.proofs.book.Book.rule.Goals as goal
 
@@ -14,7 +14,7 @@ invariant_of-self c =
     let t = b.tables in
     let k = c.args.place in
     let rule = c.args.rule in
-    let vacant = not_from_Decides c.names_vacant.result c.names_vacant.ensures c.if-names_vacant.false in
+    let vacant = not_from_Decides c.any_vacant.result (subst (λ s. Decides c.any_vacant.result (AnyVacant (view b).lines s)) c.lines_named.ensures c.any_vacant.ensures) c.if-any_vacant.false in
     all_kept _ _ _ _ _ (lines_kept b)
     (record {
       places = length-set t.rules k _ ∙ b.rule_places;
