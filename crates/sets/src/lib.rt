@@ -6,6 +6,7 @@ ghost use Rattle.sets.specs.Sets.{Has, Within};
 
 pub mod pick;
 pub mod refusal;
+pub mod walk;
 
 // Is the line in the set? No line above 63 is.
 pub fn has(set: u64, line: u32) -> bool

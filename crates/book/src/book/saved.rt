@@ -7,6 +7,7 @@ ghost use Rattle.record.specs.Record.{Good, listed};
 
 use crate::book::Book;
 use record::entries::{Entries, Entry};
+use sets::walk::Lines;
 
 impl Book {
     // The entries of a set of lines: each of its lines that has a statement, with the statement's number.
@@ -16,14 +17,12 @@ impl Book {
         ensures next { (view self.now).next ≤ last_number + 1 }
     {
         let mut entries = Entries::new();
-        for line in 0u32..64 {
-            if sets::has(lines, line) {
-                if let Some(row) = self.statement(line) {
-                    entries.push(Entry {
-                        line,
-                        number: row.number,
-                    });
-                }
+        for line in Lines::of(lines) {
+            if let Some(row) = self.statement(line) {
+                entries.push(Entry {
+                    line,
+                    number: row.number,
+                });
             }
         }
         entries
