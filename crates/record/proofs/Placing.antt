@@ -1,22 +1,12 @@
 -- Writing: bytes placed in a buffer, and entries that fit their bytes.
-use Rattle.std.proofs.Common.{◌≡◌, ℕ, suc, ◌+◌, ◌*◌, ◌/◌, ◌%◌, ◌<◌, ◌≤◌, List, [], ◌∷◌, ◌++◌, length, get_or, take, drop, set, Some, None, Option, sym, ap, ◌∙◌, arith, length-append}
+use Rattle.std.proofs.Common.{◌≡◌, ℕ, ◌+◌, ◌*◌, ◌<◌, ◌≤◌, List, [], ◌∷◌, ◌++◌, length, get_or, take, drop, Some, None, Option, sym, ap, ◌∙◌, arith, length-append}
 use Rattle.std.specs.List.{flat_map, AllByRecursion}
 use Rattle.std.proofs.lemmas.List.{append_assoc, flat_map_more, length-take-le, take_at, drop_at, drop-drop, take_more}
-use Rattle.std.proofs.lemmas.List.Edits.{sets-eq}
 use Rattle.record.specs.declared.entries.Entry.{Entry}
 use Rattle.record.specs.Record.{edition, front_bytes, entry_bytes, front, layout, encode, RisingFrom, GivenOut, Good}
 use Rattle.record.specs.Writing.{numbers_end, InBytes, Storable, Writes}
 use Rattle.record.proofs.Rises.{after_counts, after_most}
 use Rattle.record.proofs.Layouts.{length_layouts}
-
--- the three bytes of an entry, set one after the other
-pub put_entry : (b : List ℕ) (at x y z : ℕ) (e : Entry) → x ≡ e.line → y ≡ e.number / 256 → z ≡ e.number % 256 → at + entry_bytes ≤ length b → set (set (set b at x) (at + 1) y) (at + 2) z ≡ take at b ++ (layout e ++ drop (at + entry_bytes) b)
-put_entry b at x y z e line high low room =
-    let one : at + 1 ≡ suc at = omega arith in
-    let two : at + 2 ≡ suc (suc at) = omega arith in
-    let all = sets-eq (x ∷ y ∷ z ∷ []) b at room in
-    let joins = append_assoc (take at b) (x ∷ y ∷ z ∷ []) (drop (at + entry_bytes) b) in
-    cc
 
 -- one entry more, at the place n behind those that are placed
 pub placed_more : (f b : List ℕ) (es : List Entry) (i n : ℕ) (d : Entry) → n ≡ front_bytes + entry_bytes * i → i < length es → front_bytes + entry_bytes * length es ≤ length f → b ≡ take front_bytes f ++ (flat_map layout (take i es) ++ drop (front_bytes + entry_bytes * i) f) → take n b ++ (layout (get_or es i d) ++ drop (n + entry_bytes) b) ≡ take front_bytes f ++ (flat_map layout (take (i + 1) es) ++ drop (front_bytes + entry_bytes * (i + 1)) f)

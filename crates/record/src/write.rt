@@ -7,10 +7,6 @@ ghost use Rattle.std.specs.List.{flat_map, AllByRecursion};
 use crate::entries::Entry;
 use crate::{ENTRY_BYTES, FRONT_BYTES, VERSION};
 
-const MOST_IN_A_BYTE: u32 = 255;
-
-const MOST_IN_TWO: u32 = 65_535;
-
 // The record of the entries at the buffer's start, and how many bytes it is; the rest stays.
 // None, and nothing is written, if the buffer is too short or the entries do not fit their bytes.
 pub fn write(entries: &[Entry], buffer: &mut [u8]) -> Option<usize>
@@ -41,12 +37,8 @@ fn storable(entries: &[Entry]) -> bool
 fn in_bytes(entries: &[Entry]) -> bool
     ensures { Decides result (AllByRecursion InBytes entries.now) }
 {
-    for entry in entries {
-        if entry.line > MOST_IN_A_BYTE || entry.number > MOST_IN_TWO {
-            return false;
-        }
-    }
-    true
+    entries.iter().all(|entry| u8::try_from(entry.line).is_ok()
+        && u16::try_from(entry.number).is_ok())
 }
 
 // Length, version and count.
@@ -56,10 +48,8 @@ fn put_front(count: usize, buffer: &mut [u8])
     ensures { buffer.new ≡ front edition (2 + entry_bytes * count) count ++ drop front_bytes buffer.old }
 {
     let behind = 2 + ENTRY_BYTES * count;
-    buffer[0] = (behind / 256) as u8;
-    buffer[1] = (behind % 256) as u8;
-    buffer[2] = VERSION;
-    buffer[3] = count as u8;
+    let [high, low] = (behind as u16).to_be_bytes();
+    buffer[..FRONT_BYTES].copy_from_slice(&[high, low, VERSION, count as u8]);
 }
 
 // The entries, behind the four bytes in front.
@@ -79,7 +69,6 @@ fn put(entry: Entry, at: usize, buffer: &mut [u8])
     requires room { at + entry_bytes ≤ length buffer.old }
     ensures { buffer.new ≡ take at buffer.old ++ (layout entry ++ drop (at + entry_bytes) buffer.old) }
 {
-    buffer[at] = entry.line as u8;
-    buffer[at + 1] = (entry.number / 256) as u8;
-    buffer[at + 2] = (entry.number % 256) as u8;
+    let [high, low] = (entry.number as u16).to_be_bytes();
+    buffer[at..at + ENTRY_BYTES].copy_from_slice(&[entry.line as u8, high, low]);
 }

@@ -1,5 +1,5 @@
 use Rattle.std.proofs.Common.{inl, inr, ⊎_elim}
-use Rattle.facts.proofs.steps.asked.fire.Goals as goal
+use Rattle.facts.proofs.step.Step.fire.Goals as goal
 
 pub returns-then-within : goal.returns-then-within
 returns-then-within c =
