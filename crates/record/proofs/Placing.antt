@@ -1,9 +1,9 @@
 -- Writing: bytes placed in a buffer, and entries that fit their bytes.
-use Rattle.std.proofs.Common.{◌≡◌, ℕ, ◌+◌, ◌*◌, ◌<◌, ◌≤◌, List, [], ◌∷◌, ◌++◌, length, get_or, take, drop, Some, None, Option, sym, ap, ◌∙◌, arith, length-append}
+use Rattle.std.proofs.Common.{◌≡◌, ℕ, ◌+◌, ◌*◌, ◌<◌, ◌≤◌, List, [], ◌∷◌, ◌++◌, length, get_or, take, drop, Some, None, Option, refl, sym, ap, ◌∙◌, arith, length-append}
 use Rattle.std.specs.List.{flat_map, AllByRecursion}
 use Rattle.std.proofs.lemmas.List.{append_assoc, flat_map_more, length-take-le, take_at, drop_at, drop-drop, take_more}
 use Rattle.record.specs.declared.entries.Entry.{Entry}
-use Rattle.record.specs.Record.{edition, front_bytes, entry_bytes, front, layout, encode, RisingFrom, GivenOut, Good}
+use Rattle.record.specs.Record.{Examples, edition, front_bytes, entry_bytes, front, layout, encode, RisingFrom, GivenOut, Good}
 use Rattle.record.specs.Writing.{numbers_end, InBytes, Storable, Writes}
 use Rattle.record.proofs.Rises.{after_counts, after_most}
 use Rattle.record.proofs.Layouts.{length_layouts}
@@ -60,6 +60,10 @@ storable_good next es few g =
     (omega (arith, after_counts 0 es g.rising), in_bytes next 0 es few g.rising g.given)
 
 -- so they are written wherever there is room
-pub good_written : (es : List Entry) (b a : List ℕ) (r : Option ℕ) → Writes es b a r → (next : ℕ) → next ≤ numbers_end → Good next es → length (encode edition es) ≤ length b → r ≡ Some (length (encode edition es))
+good_written : (es : List Entry) (b a : List ℕ) (r : Option ℕ) → Writes es b a r → (next : ℕ) → next ≤ numbers_end → Good next es → length (encode edition es) ≤ length b → r ≡ Some (length (encode edition es))
 good_written es b a (Some n) h next few g room = ap Some h.1
 good_written es b a None h next few g room = absurd (h.0 (storable_good next es few g) room)
+
+-- what writing promises, from its second clause
+pub written_from : (es : List Entry) (b a : List ℕ) (r : Option ℕ) → Writes es b a r → record { examples : Examples; writes : Writes es b a r; good : (next : ℕ) → next ≤ numbers_end → Good next es → length (encode edition es) ≤ length b → r ≡ Some (length (encode edition es)) }
+written_from es b a r w = record { examples = (refl, refl); writes = w; good = good_written es b a r w }
