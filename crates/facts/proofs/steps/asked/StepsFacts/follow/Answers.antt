@@ -1,16 +1,10 @@
-use Rattle.std.proofs.Common.{sym, subst, arith}
+use Rattle.std.proofs.Common.{arith}
 use Rattle.sets.proofs.Lines.{smallest_same}
 use Rattle.facts.specs.Steps.{Closed, Follows}
 use Rattle.facts.specs.Told.{told}
-use Rattle.facts.specs.ClosureLemmas.{Reached, reached_start, reached_done, reached_less}
+use Rattle.facts.specs.ClosureLemmas.{reached_done, reached_less}
 use Rattle.facts.specs.Stepping.{ObeysAll, told_are, follows_from, stepped_follows}
 use Rattle.facts.proofs.steps.asked.StepsFacts.follow.Goals as goal
-
-pub loop-reached-init : goal.loop-reached-init
-loop-reached-init g c =
-    let f = c.args.self.now in
-    let m = g.F.Facts.meaning f.below in
-    subst (Reached m (ObeysAll (told f)) c.args.set) (sym c.follow-reached.ensures) (reached_start m (g.met.F.Facts.lawful f.below) (ObeysAll (told f)) c.args.set (omega arith))
 
 pub returns-then-next-reached : goal.returns-then-next-reached
 returns-then-next-reached g c =
