@@ -1,25 +1,19 @@
-use Rattle.std.proofs.Common.{◌≡◌, ℕ, ◌-◌, ◌<◌, ◌++◌, length, drop, Ok, Err, sym, refl, ap, ◌∙◌, subst, arith, ltb-false, ltb-true}
+use Rattle.std.proofs.Common.{ℕ, ◌<◌, ◌++◌, length, drop, Ok, Err, sym, refl, ap, ◌∙◌, subst, arith, ltb-false, ltb-true}
 use Rattle.std.specs.List.{flat_map}
 use Rattle.std.proofs.lemmas.List.{take_rest}
 use Rattle.std.proofs.lemmas.Result.{err_from_is_err_and}
 use Rattle.record.specs.declared.entries.Entry.{Entry}
 use Rattle.record.specs.declared.fault.Fault.TheVariants.{Entry as AtEntry}
 use Rattle.record.specs.Record.{front_bytes, entry_bytes, layout, listed, Good, Fit}
-use Rattle.record.specs.Faults.{Reads}
 use Rattle.record.proofs.Rises.{after, after_more, after_counts, good_more}
 use Rattle.record.proofs.Layouts.{entry_first}
-use Rattle.record.proofs.Reading.{pushed, read_from, entry_more, length_left, faulty_here, all_read}
+use Rattle.record.proofs.Reading.{pushed, read_from, entry_more, faulty_here, all_read}
 use Rattle.record.proofs.read.read.Goals as goal
 
 pub returns-in_err-rest : goal.returns-in_err-rest
 returns-in_err-rest c =
     let p = err_from_is_err_and c.from_residual.result c.from_residual.ensures.1 in
     read_from c.args.next c.args.bytes.now c.from_residual.result (rw (p.1, p.2) (c.in_err-rest.ensures c.args.next))
-
-pub overflow_sub-result : goal.overflow_sub-result
-overflow_sub-result c =
-    let o = c.in_ok-rest.ensures in
-    omega (arith, length_left c.args.bytes.now c.loop-rest.rest.now (listed c.loop-rest.entries) c.loop-rest.invariant.0 o.right_length.0)
 
 -- the entry that the code makes of the next three bytes
 abbrev entry_of : ℕ → ℕ → Entry
