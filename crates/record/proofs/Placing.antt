@@ -3,7 +3,7 @@ use Rattle.std.proofs.Common.{◌≡◌, ℕ, ◌+◌, ◌*◌, ◌<◌, ◌≤�
 use Rattle.std.specs.List.{flat_map, AllByRecursion}
 use Rattle.std.proofs.lemmas.List.{append_assoc, flat_map_more, length-take-le, take_at, drop_at, drop-drop, take_more}
 use Rattle.record.specs.declared.entries.Entry.{Entry}
-use Rattle.record.specs.Record.{Examples, edition, front_bytes, entry_bytes, front, layout, encode, RisingFrom, GivenOut, Good}
+use Rattle.record.specs.Record.{Examples, edition, front_bytes, entry_bytes, layout, encode, RisingFrom, GivenOut, Good}
 use Rattle.record.specs.Writing.{numbers_end, InBytes, Storable, Writes}
 use Rattle.record.proofs.Rises.{after_counts, after_most}
 use Rattle.record.proofs.Layouts.{length_layouts}
@@ -30,20 +30,6 @@ placed_more f b es i n d n-is lt room b-is =
     ∙ append_assoc (take front_bytes f) J (layout e ++ D)
     ∙ ap (λ x. take front_bytes f ++ x) (sym (append_assoc J (layout e) D))
     ∙ ap (λ x. take front_bytes f ++ (x ++ D)) items
-
--- the front and the entries make the record
-pub written : (version : ℕ) (es : List Entry) (b g a : List ℕ) → g ≡ front version (2 + entry_bytes * length es) (length es) ++ drop front_bytes b → a ≡ take front_bytes g ++ (flat_map layout es ++ drop (front_bytes + entry_bytes * length es) g) → a ≡ encode version es ++ drop (front_bytes + entry_bytes * length es) b
-written version es b g a e a-is =
-    let J = flat_map layout es in
-    let n = entry_bytes * length es in
-    let F = front version (2 + length J) (length es) in
-    let head : take front_bytes g ≡ F = ap (take front_bytes) e ∙ ap (λ k. front version (2 + k) (length es)) (sym (length_layouts es)) in
-    let end : drop (front_bytes + n) g ≡ drop (front_bytes + n) b =
-    sym (drop-drop n front_bytes g) ∙ ap (λ x. drop n (drop front_bytes x)) e ∙ drop-drop n front_bytes b in
-    a-is
-    ∙ ap (λ x. x ++ (J ++ drop (front_bytes + n) g)) head
-    ∙ ap (λ x. F ++ (J ++ x)) end
-    ∙ sym (append_assoc F J (drop (front_bytes + n) b))
 
 -- an entry of a rising list of given numbers fits its bytes
 in_bytes : (next least : ℕ) (es : List Entry) → next ≤ numbers_end → RisingFrom least es → AllByRecursion (GivenOut next) es → AllByRecursion InBytes es

@@ -30,15 +30,9 @@ pub fn write(entries: &[Entry], buffer: &mut [u8]) -> Option<usize>
 fn storable(entries: &[Entry]) -> bool
     ensures { Decides result (Storable entries.now) }
 {
-    entries.len() < 256 && in_bytes(entries)
-}
-
-// Does each line fit one byte, and each number two?
-fn in_bytes(entries: &[Entry]) -> bool
-    ensures { Decides result (AllByRecursion InBytes entries.now) }
-{
-    entries.iter().all(|entry| u8::try_from(entry.line).is_ok()
-        && u16::try_from(entry.number).is_ok())
+    u8::try_from(entries.len()).is_ok()
+        && entries.iter().all(|entry| u8::try_from(entry.line).is_ok()
+            && u16::try_from(entry.number).is_ok())
 }
 
 // Length, version and count.
