@@ -1,14 +1,16 @@
 -- Steps over lawful facts: what they compute is the smallest set asked for, and they are lawful again.
-use Rattle.std.specs.Prelude.{◌≡◌, ℕ, zero, suc, ◌+◌, ◌-◌, ◌^◌, ◌<◌, ◌≤◌, Bool, true, false, cond, List, [], ◌∷◌, ◌++◌, length, get_or, take, drop, ◌==◌, bit_and, bit_or, slice_index_or}
+use Rattle.std.specs.Prelude.{◌≡◌, ℕ, zero, suc, ◌+◌, ◌-◌, ◌^◌, ◌<◌, ◌≤◌, Bool, true, false, cond, List, [], ◌∷◌, ◌++◌, length, get_or, take, drop, ◌==◌, bit_and, bit_or, fold, slice_index_or}
 use Rattle.std.proofs.Math.Path.{refl}
 use Rattle.std.proofs.Common.{sym, ap, subst, ◌∙◌, inl, inr, ⊎_elim, arith}
+use Rattle.std.specs.Int.Bits.{or_zero_r}
 use Rattle.std.proofs.lemmas.Nat.{pow_below, or_lt}
 use Rattle.std.proofs.lemmas.List.{take_more, drop_more}
 use Rattle.std.proofs.lemmas.Bool.Decides.{Decides-eqb, not_from_Decides}
 use Rattle.std.specs.List.{AllByRecursion}
 use Rattle.sets.specs.Sets.{Has, Within, IsLines, Smallest}
 use Rattle.sets.proofs.Lines.{or_has, or_has_left, or_has_right, single_has, single_only, within_from_and, and_from_within, same_lines, smallest_like, or_group}
-use Rattle.sets.proofs.Rows.{all_front, all_push, all_pushed}
+use Rattle.sets.proofs.Rows.{all_push, all_pushed}
+use Rattle.std.proofs.lemmas.List.Elements.{recursion_from_All}
 use Rattle.facts.specs.Meaning.{Meaning, Lawful}
 use Rattle.facts.specs.Steps.{IsStep, no_step, Obeys, Fires, Closed, Follows, lines_in, lines_of, pass, settle, stepped}
 use Rattle.facts.specs.Told.{told}
@@ -165,9 +167,14 @@ named_more steps i all lt =
     ap (λ ys. bit_or all (lines_of ys)) (drop_more steps i no_step lt)
     ∙ sym (or_group all (lines_in x) (lines_of (drop (i + 1) steps)))
 
+-- naming the steps one by one names them all
+pub named_all : (named : ℕ) (steps : List Step) → bit_or named (lines_of steps) ≡ fold (λ all x. bit_or all (lines_in x)) named steps
+named_all named [] = or_zero_r named
+named_all named (x ∷ xs) = named_more (x ∷ xs) 0 named (omega arith) ∙ named_all (bit_or named (lines_in x)) xs
+
 -- what was told to facts of steps are steps
 pub told_are : {F : Type 0} (f : Steps F) → AllByRecursion IsStep (told f)
-told_are f = all_front IsStep f.count f.rows no_step (λ i. (f.needs_fit i, f.gives_fit i))
+told_are f = recursion_from_All IsStep f.rows.items f.steps_fit
 
 -- what a pass over all that was told promises, told of the facts
 pub passed_told : {F : Type 0} (f : Steps F) (steps : List Step) (s a : ℕ) → steps ≡ told f → Passed (ObeysAll steps) s a → Passed (ObeysAll (told f)) s a

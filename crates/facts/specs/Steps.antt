@@ -13,7 +13,7 @@ most_steps = 32
 abbrev pub IsStep : Step → Type 0
 IsStep x = IsLines x.needs × (x.gives < 64)
 
--- the step that adds nothing: what stands in a row not yet told
+-- the step that adds nothing
 abbrev pub no_step : Step
 no_step = record { needs = 0; gives = 0 }
 

@@ -1,5 +1,5 @@
 -- The steps that were told to facts of the kind `Steps`, in order, and when a further one is refused.
-use Rattle.std.specs.Prelude.{◌≡◌, ℕ, ◌<◌, ◌≤◌, List, [], ◌∷◌, ◌++◌, length, take, Result}
+use Rattle.std.specs.Prelude.{◌≡◌, ℕ, ◌<◌, ◌≤◌, List, [], ◌∷◌, ◌++◌, length, Result}
 use Rattle.sets.specs.Grounds.{Ground, Answered}
 use Rattle.sets.specs.declared.refusal.Refusal.{Refusal}
 use Rattle.sets.specs.declared.refusal.Refusal.TheVariants.{OutOfRange, FactsFull}
@@ -8,7 +8,7 @@ use Rattle.facts.specs.declared.step.Step.{Step}
 use Rattle.facts.specs.declared.steps.Steps.{Steps}
 
 abbrev pub told : {F : Type 0} → Steps F → List Step
-told f = take f.count f.rows
+told f = f.rows.items
 
 -- a step is refused if it gives a line above 63, then if there are as many steps as there may be
 abbrev pub step_grounds : List Step → ℕ → List Ground

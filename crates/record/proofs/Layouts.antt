@@ -21,10 +21,6 @@ front_three (a ∷ []) h = absurd (omega arith)
 front_three (a ∷ b ∷ []) h = absurd (omega arith)
 front_three (a ∷ b ∷ c ∷ rest) h = refl
 
-pub no_bytes : (bytes : List ℕ) → length bytes ≡ 0 → bytes ≡ []
-no_bytes [] h = refl
-no_bytes (a ∷ bytes) h = absurd (omega arith)
-
 pub length_layouts : (es : List Entry) → length (flat_map layout es) ≡ entry_bytes * length es
 length_layouts [] = refl
 length_layouts (e ∷ es) = omega (arith, length_layouts es)
@@ -45,9 +41,9 @@ same_entry x y l up down =
 
 -- bytes that begin with those of an entry, and are those of entries
 layouts_split : (bs es : List Entry) (e : Entry) (behind : List ℕ) → flat_map layout es ≡ flat_map layout bs ++ (layout e ++ behind) → (fs : List Entry) × (es ≡ bs ++ (e ∷ fs))
-layouts_split [] [] e behind h = let z : ◌≡◌ {A = ℕ} 0 1 = cc in absurd (omega arith)
+layouts_split [] [] e behind h = absurd (cc)
 layouts_split [] (x ∷ es) e behind h = let x-is = same_entry x e (cc) (cc) (cc) in (es, cc)
-layouts_split (b ∷ bs) [] e behind h = let z : ◌≡◌ {A = ℕ} 0 1 = cc in absurd (omega arith)
+layouts_split (b ∷ bs) [] e behind h = absurd (cc)
 layouts_split (b ∷ bs) (x ∷ es) e behind h =
     let x-is = same_entry x b (cc) (cc) (cc) in
     let rest = layouts_split bs es e behind (cc) in
@@ -56,8 +52,8 @@ layouts_split (b ∷ bs) (x ∷ es) e behind h =
 
 layouts_same : (es fs : List Entry) → flat_map layout es ≡ flat_map layout fs → es ≡ fs
 layouts_same [] [] h = refl
-layouts_same [] (f ∷ fs) h = let z : ◌≡◌ {A = ℕ} 0 1 = cc in absurd (omega arith)
-layouts_same (e ∷ es) [] h = let z : ◌≡◌ {A = ℕ} 0 1 = cc in absurd (omega arith)
+layouts_same [] (f ∷ fs) h = absurd (cc)
+layouts_same (e ∷ es) [] h = absurd (cc)
 layouts_same (e ∷ es) (f ∷ fs) h =
     let head = same_entry e f (cc) (cc) (cc) in
     let tail = layouts_same es fs (cc) in

@@ -1,22 +1,12 @@
 -- Writing: bytes placed in a buffer, and entries that fit their bytes.
-use Rattle.std.proofs.Common.{◌≡◌, ℕ, suc, ◌+◌, ◌*◌, ◌/◌, ◌%◌, ◌<◌, ◌≤◌, List, [], ◌∷◌, ◌++◌, length, get_or, take, drop, set, Some, None, Option, sym, ap, ◌∙◌, arith, length-append}
+use Rattle.std.proofs.Common.{◌≡◌, ℕ, ◌+◌, ◌*◌, ◌<◌, ◌≤◌, List, [], ◌∷◌, ◌++◌, length, get_or, take, drop, Some, None, Option, refl, sym, ap, ◌∙◌, arith, length-append}
 use Rattle.std.specs.List.{flat_map, AllByRecursion}
 use Rattle.std.proofs.lemmas.List.{append_assoc, flat_map_more, length-take-le, take_at, drop_at, drop-drop, take_more}
-use Rattle.std.proofs.lemmas.List.Edits.{sets-eq}
 use Rattle.record.specs.declared.entries.Entry.{Entry}
-use Rattle.record.specs.Record.{edition, front_bytes, entry_bytes, front, layout, encode, RisingFrom, GivenOut, Good}
+use Rattle.record.specs.Record.{Examples, edition, front_bytes, entry_bytes, layout, encode, RisingFrom, GivenOut, Good}
 use Rattle.record.specs.Writing.{numbers_end, InBytes, Storable, Writes}
 use Rattle.record.proofs.Rises.{after_counts, after_most}
 use Rattle.record.proofs.Layouts.{length_layouts}
-
--- the three bytes of an entry, set one after the other
-pub put_entry : (b : List ℕ) (at x y z : ℕ) (e : Entry) → x ≡ e.line → y ≡ e.number / 256 → z ≡ e.number % 256 → at + entry_bytes ≤ length b → set (set (set b at x) (at + 1) y) (at + 2) z ≡ take at b ++ (layout e ++ drop (at + entry_bytes) b)
-put_entry b at x y z e line high low room =
-    let one : at + 1 ≡ suc at = omega arith in
-    let two : at + 2 ≡ suc (suc at) = omega arith in
-    let all = sets-eq (x ∷ y ∷ z ∷ []) b at room in
-    let joins = append_assoc (take at b) (x ∷ y ∷ z ∷ []) (drop (at + entry_bytes) b) in
-    cc
 
 -- one entry more, at the place n behind those that are placed
 pub placed_more : (f b : List ℕ) (es : List Entry) (i n : ℕ) (d : Entry) → n ≡ front_bytes + entry_bytes * i → i < length es → front_bytes + entry_bytes * length es ≤ length f → b ≡ take front_bytes f ++ (flat_map layout (take i es) ++ drop (front_bytes + entry_bytes * i) f) → take n b ++ (layout (get_or es i d) ++ drop (n + entry_bytes) b) ≡ take front_bytes f ++ (flat_map layout (take (i + 1) es) ++ drop (front_bytes + entry_bytes * (i + 1)) f)
@@ -41,20 +31,6 @@ placed_more f b es i n d n-is lt room b-is =
     ∙ ap (λ x. take front_bytes f ++ x) (sym (append_assoc J (layout e) D))
     ∙ ap (λ x. take front_bytes f ++ (x ++ D)) items
 
--- the front and the entries make the record
-pub written : (version : ℕ) (es : List Entry) (b g a : List ℕ) → g ≡ front version (2 + entry_bytes * length es) (length es) ++ drop front_bytes b → a ≡ take front_bytes g ++ (flat_map layout es ++ drop (front_bytes + entry_bytes * length es) g) → a ≡ encode version es ++ drop (front_bytes + entry_bytes * length es) b
-written version es b g a e a-is =
-    let J = flat_map layout es in
-    let n = entry_bytes * length es in
-    let F = front version (2 + length J) (length es) in
-    let head : take front_bytes g ≡ F = ap (take front_bytes) e ∙ ap (λ k. front version (2 + k) (length es)) (sym (length_layouts es)) in
-    let end : drop (front_bytes + n) g ≡ drop (front_bytes + n) b =
-    sym (drop-drop n front_bytes g) ∙ ap (λ x. drop n (drop front_bytes x)) e ∙ drop-drop n front_bytes b in
-    a-is
-    ∙ ap (λ x. x ++ (J ++ drop (front_bytes + n) g)) head
-    ∙ ap (λ x. F ++ (J ++ x)) end
-    ∙ sym (append_assoc F J (drop (front_bytes + n) b))
-
 -- an entry of a rising list of given numbers fits its bytes
 in_bytes : (next least : ℕ) (es : List Entry) → next ≤ numbers_end → RisingFrom least es → AllByRecursion (GivenOut next) es → AllByRecursion InBytes es
 in_bytes next least [] few r g = tt
@@ -70,6 +46,10 @@ storable_good next es few g =
     (omega (arith, after_counts 0 es g.rising), in_bytes next 0 es few g.rising g.given)
 
 -- so they are written wherever there is room
-pub good_written : (es : List Entry) (b a : List ℕ) (r : Option ℕ) → Writes es b a r → (next : ℕ) → next ≤ numbers_end → Good next es → length (encode edition es) ≤ length b → r ≡ Some (length (encode edition es))
+good_written : (es : List Entry) (b a : List ℕ) (r : Option ℕ) → Writes es b a r → (next : ℕ) → next ≤ numbers_end → Good next es → length (encode edition es) ≤ length b → r ≡ Some (length (encode edition es))
 good_written es b a (Some n) h next few g room = ap Some h.1
 good_written es b a None h next few g room = absurd (h.0 (storable_good next es few g) room)
+
+-- what writing promises, from its second clause
+pub written_from : (es : List Entry) (b a : List ℕ) (r : Option ℕ) → Writes es b a r → record { examples : Examples; writes : Writes es b a r; good : (next : ℕ) → next ≤ numbers_end → Good next es → length (encode edition es) ≤ length b → r ≡ Some (length (encode edition es)) }
+written_from es b a r w = record { examples = (refl, refl); writes = w; good = good_written es b a r w }

@@ -1,7 +1,7 @@
 -- Entries that rise, one more at the end.
 use Rattle.std.proofs.Common.{◌≡◌, ℕ, ◌+◌, ◌<◌, ◌≤◌, List, [], ◌∷◌, ◌++◌, length, refl, arith}
 use Rattle.std.specs.List.{AllByRecursion}
-use Rattle.std.proofs.ByRecursion.{All-push}
+use Rattle.std.proofs.ByRecursion.{All-push, all-has, has_push}
 use Rattle.record.specs.declared.entries.Entry.{Entry}
 use Rattle.record.specs.Record.{RisingFrom, GivenOut, Good, Fit}
 
@@ -35,10 +35,6 @@ pub after_most : (least : ℕ) (es : List Entry) → least ≤ 64 → RisingFrom
 after_most least [] h r = h
 after_most least (x ∷ es) h r = let below = r.1 in after_most (x.line + 1) es (omega arith) r.2
 
-all_last : (P : Entry → Type 0) (es : List Entry) (e : Entry) → AllByRecursion P (es ++ (e ∷ [])) → P e
-all_last P [] e h = h.0
-all_last P (x ∷ es) e h = all_last P es e h.1
-
 all_front : (P : Entry → Type 0) (es : List Entry) (e : Entry) (fs : List Entry) → AllByRecursion P (es ++ (e ∷ fs)) → AllByRecursion P (es ++ (e ∷ []))
 all_front P [] e fs h = (h.0, tt)
 all_front P (x ∷ es) e fs h = (h.0, all_front P es e fs h.1)
@@ -50,7 +46,7 @@ good_more next es e g f =
 pub good_last : (next : ℕ) (es : List Entry) (e : Entry) → Good next (es ++ (e ∷ [])) → Fit next (after 0 es) e
 good_last next es e g =
     let line = rising_last 0 es e g.rising in
-    (line.0, line.1, all_last (GivenOut next) es e g.given)
+    (line.0, line.1, all-has (GivenOut next) (es ++ (e ∷ [])) e g.given (has_push es e))
 
 pub good_front : (next : ℕ) (es : List Entry) (e : Entry) (fs : List Entry) → Good next (es ++ (e ∷ fs)) → Good next (es ++ (e ∷ []))
 good_front next es e fs g = record { rising = rising_front 0 es e fs g.rising; given = all_front (GivenOut next) es e fs g.given }

@@ -1,5 +1,5 @@
 -- The record of a saved menu, as bytes, and which entries a record may hold.
-use Rattle.std.specs.Prelude.{◌≡◌, ℕ, ◌+◌, ◌/◌, ◌%◌, ◌<◌, ◌≤◌, Bool, true, false, List, [], ◌∷◌, ◌++◌, length, take}
+use Rattle.std.specs.Prelude.{◌≡◌, ℕ, ◌+◌, ◌/◌, ◌%◌, ◌<◌, ◌≤◌, Bool, true, false, List, [], ◌∷◌, ◌++◌, length}
 use Rattle.std.specs.List.{flat_map, AllByRecursion}
 use Rattle.record.specs.declared.entries.Entry.{Entry}
 use Rattle.record.specs.declared.entries.Entries.{Entries}
@@ -61,7 +61,7 @@ Fit next least e = (least ≤ e.line) × (e.line < 64) × GivenOut next e
 
 -- the entries that a list has
 abbrev pub listed : Entries → List Entry
-listed x = take x.count x.items
+listed x = x.0.items
 
 -- Yes: there was room, and the entry is the last now. No: there were 64 already, and all is as it was.
 abbrev pub Pushes : List Entry → Entry → List Entry → Bool → Type 0

@@ -23,8 +23,7 @@ impl Fault {
         match self {
             Fault::Length => 15,
             Fault::Version => 16,
-            Fault::Count => 17,
-            Fault::Entry(_) => 17,
+            Fault::Count | Fault::Entry(_) => 17,
         }
     }
 

@@ -21,7 +21,7 @@ pub fn read(bytes: &[u8], next: u32) -> Result<Entries, Fault>
     while let [line, high, low, more @ ..] = rest {
         let entry = Entry {
             line: u32::from(*line),
-            number: value(*high, *low),
+            number: u32::from(value(*high, *low)),
         };
         if !fits(entry, least, next) {
             return Err(Fault::Entry(bytes.len() - rest.len()));
@@ -41,7 +41,7 @@ fn open(bytes: &[u8]) -> Result<&[u8], Fault>
     let [high, low, version, count, rest @ ..] = bytes else {
         return Err(Fault::Length);
     };
-    let length = value(*high, *low) as usize;
+    let length = usize::from(value(*high, *low));
     if bytes.len() != 2 + length {
         return Err(Fault::Length);
     }
@@ -58,13 +58,12 @@ fn open(bytes: &[u8]) -> Result<&[u8], Fault>
 fn fits(entry: Entry, least: u32, next: u32) -> bool
     ensures { Decides result (Fit next least entry) }
 {
-    let rises = least <= entry.line && entry.line < 64;
-    rises && 0 < entry.number && entry.number < next
+    (least..64).contains(&entry.line) && (1..next).contains(&entry.number)
 }
 
 // Two bytes, the high one first.
-fn value(high: u8, low: u8) -> u32
+fn value(high: u8, low: u8) -> u16
     ensures { result ≡ 256 * high + low }
 {
-    256 * u32::from(high) + u32::from(low)
+    u16::from_be_bytes([high, low])
 }

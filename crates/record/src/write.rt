@@ -7,10 +7,6 @@ ghost use Rattle.std.specs.List.{flat_map, AllByRecursion};
 use crate::entries::Entry;
 use crate::{ENTRY_BYTES, FRONT_BYTES, VERSION};
 
-const MOST_IN_A_BYTE: u32 = 255;
-
-const MOST_IN_TWO: u32 = 65_535;
-
 // The record of the entries at the buffer's start, and how many bytes it is; the rest stays.
 // None, and nothing is written, if the buffer is too short or the entries do not fit their bytes.
 pub fn write(entries: &[Entry], buffer: &mut [u8]) -> Option<usize>
@@ -34,19 +30,9 @@ pub fn write(entries: &[Entry], buffer: &mut [u8]) -> Option<usize>
 fn storable(entries: &[Entry]) -> bool
     ensures { Decides result (Storable entries.now) }
 {
-    entries.len() < 256 && in_bytes(entries)
-}
-
-// Does each line fit one byte, and each number two?
-fn in_bytes(entries: &[Entry]) -> bool
-    ensures { Decides result (AllByRecursion InBytes entries.now) }
-{
-    for entry in entries {
-        if entry.line > MOST_IN_A_BYTE || entry.number > MOST_IN_TWO {
-            return false;
-        }
-    }
-    true
+    u8::try_from(entries.len()).is_ok()
+        && entries.iter().all(|entry| u8::try_from(entry.line).is_ok()
+            && u16::try_from(entry.number).is_ok())
 }
 
 // Length, version and count.
@@ -56,10 +42,8 @@ fn put_front(count: usize, buffer: &mut [u8])
     ensures { buffer.new ≡ front edition (2 + entry_bytes * count) count ++ drop front_bytes buffer.old }
 {
     let behind = 2 + ENTRY_BYTES * count;
-    buffer[0] = (behind / 256) as u8;
-    buffer[1] = (behind % 256) as u8;
-    buffer[2] = VERSION;
-    buffer[3] = count as u8;
+    let [high, low] = (behind as u16).to_be_bytes();
+    buffer[..FRONT_BYTES].copy_from_slice(&[high, low, VERSION, count as u8]);
 }
 
 // The entries, behind the four bytes in front.
@@ -79,7 +63,6 @@ fn put(entry: Entry, at: usize, buffer: &mut [u8])
     requires room { at + entry_bytes ≤ length buffer.old }
     ensures { buffer.new ≡ take at buffer.old ++ (layout entry ++ drop (at + entry_bytes) buffer.old) }
 {
-    buffer[at] = entry.line as u8;
-    buffer[at + 1] = (entry.number / 256) as u8;
-    buffer[at + 2] = (entry.number % 256) as u8;
+    let [high, low] = (entry.number as u16).to_be_bytes();
+    buffer[at..at + ENTRY_BYTES].copy_from_slice(&[entry.line as u8, high, low]);
 }

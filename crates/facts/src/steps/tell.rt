@@ -3,7 +3,8 @@ ghost use Rattle.facts.specs.Told.{told, PutStep};
 ghost use Rattle.std.specs.Prelude.{◌≡◌, []};
 
 use crate::step::Step;
-use crate::steps::{MOST_STEPS, Steps};
+use crate::steps::Steps;
+use arrayvec::ArrayVec;
 use sets::refusal::Refusal;
 
 impl<F> Steps<F> {
@@ -14,8 +15,7 @@ impl<F> Steps<F> {
     {
         Steps {
             below,
-            rows: [Step { needs: 0, gives: 0 }; MOST_STEPS],
-            count: 0,
+            rows: ArrayVec::new(),
         }
     }
 
@@ -27,12 +27,8 @@ impl<F> Steps<F> {
         if gives > 63 {
             return Err(Refusal::OutOfRange);
         }
-        let at = self.count;
-        if at >= MOST_STEPS {
-            return Err(Refusal::FactsFull);
-        }
-        self.rows[at] = Step { needs, gives };
-        self.count = at + 1;
-        Ok(())
+        self.rows
+            .try_push(Step { needs, gives })
+            .map_err(|_| Refusal::FactsFull)
     }
 }

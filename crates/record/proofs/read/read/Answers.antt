@@ -1,26 +1,19 @@
-use Rattle.std.proofs.Common.{◌≡◌, ℕ, ◌-◌, ◌<◌, ◌++◌, length, drop, Ok, Err, sym, refl, ap, ◌∙◌, subst, arith, ltb-false, ltb-true}
+use Rattle.std.proofs.Common.{ℕ, ◌<◌, ◌++◌, length, drop, Ok, Err, sym, refl, ap, ◌∙◌, subst, arith, ltb-false, ltb-true}
 use Rattle.std.specs.List.{flat_map}
 use Rattle.std.proofs.lemmas.List.{take_rest}
 use Rattle.std.proofs.lemmas.Result.{err_from_is_err_and}
 use Rattle.record.specs.declared.entries.Entry.{Entry}
 use Rattle.record.specs.declared.fault.Fault.TheVariants.{Entry as AtEntry}
 use Rattle.record.specs.Record.{front_bytes, entry_bytes, layout, listed, Good, Fit}
-use Rattle.record.specs.Faults.{Reads}
 use Rattle.record.proofs.Rises.{after, after_more, after_counts, good_more}
 use Rattle.record.proofs.Layouts.{entry_first}
-use Rattle.record.proofs.Reading.{pushed, back_from, exact_from, entry_more, length_left, faulty_here, all_read}
+use Rattle.record.proofs.Reading.{pushed, read_from, entry_more, faulty_here, all_read}
 use Rattle.record.proofs.read.read.Goals as goal
 
 pub returns-in_err-rest : goal.returns-in_err-rest
 returns-in_err-rest c =
     let p = err_from_is_err_and c.from_residual.result c.from_residual.ensures.1 in
-    let one : Reads c.args.next c.args.bytes.now c.from_residual.result = rw (p.1, p.2) (c.in_err-rest.ensures c.args.next) in
-    record { one = one; back = back_from c.args.next c.args.bytes.now c.from_residual.result one; exact = exact_from c.args.next c.args.bytes.now c.from_residual.result one }
-
-pub overflow_sub-result : goal.overflow_sub-result
-overflow_sub-result c =
-    let o = c.in_ok-rest.ensures in
-    omega (arith, length_left c.args.bytes.now c.loop-rest.rest.now (listed c.loop-rest.entries) c.loop-rest.invariant.0 o.right_length.0)
+    read_from c.args.next c.args.bytes.now c.from_residual.result (rw (p.1, p.2) (c.in_err-rest.ensures c.args.next))
 
 -- the entry that the code makes of the next three bytes
 abbrev entry_of : ℕ → ℕ → Entry
@@ -31,24 +24,20 @@ returns-then-not-fits c =
     let bytes = c.args.bytes.now in
     let rest = c.loop-rest.rest.now in
     let es = listed c.loop-rest.entries in
-    let e = entry_of c.from.result c.value.result in
+    let e = entry_of c.from.result c.from-in-len3-up.result in
     let o = c.in_ok-rest.ensures in
-    let first = entry_first rest e (omega (arith, ltb-false)) c.from.ensures c.value.ensures (omega arith) in
-    let unfit : Fit c.args.next (after 0 es) e → ⊥ = λ fit.
-    let turned = c.if-not-fits.ensures.1 (subst (λ least. Fit c.args.next least e) (sym c.loop-rest.invariant.2) fit) in
-    let z : ◌≡◌ {A = ℕ} 0 1 = cc in omega arith in
-    let here = length bytes - length rest in
-    let one : (place : ℕ) → place ≡ here → Reads c.args.next bytes (Err (AtEntry place)) = λ place is. (o.right_length, o.right_version, o.right_count, faulty_here c.args.next bytes rest es e place is c.loop-rest.invariant.0 o.right_length.0 first c.loop-rest.invariant.1 unfit) in
-    record { one = one _ (omega arith); back = back_from c.args.next bytes (Err (AtEntry here)) (one here refl); exact = exact_from c.args.next bytes (Err (AtEntry _)) (one _ (omega arith)) }
+    let first = entry_first rest e (omega (arith, ltb-false)) c.from.ensures (omega arith) (omega arith) in
+    let unfit : Fit c.args.next (after 0 es) e → ⊥ = λ fit. cc (c.if-not-fits.ensures.1 (subst (λ least. Fit c.args.next least e) (sym c.loop-rest.invariant.2) fit)) in
+    read_from c.args.next bytes (Err (AtEntry _)) (o.right_length, o.right_version, o.right_count, faulty_here c.args.next bytes rest es e _ (omega arith) c.loop-rest.invariant.0 o.right_length.0 first c.loop-rest.invariant.1 unfit)
 
 pub loop-rest-preserved : goal.loop-rest-preserved
 loop-rest-preserved c =
     let bytes = c.args.bytes.now in
     let rest = c.loop-rest.rest.now in
     let es = listed c.loop-rest.entries in
-    let e = entry_of c.from.result c.value.result in
+    let e = entry_of c.from.result c.from-in-len3-up.result in
     let fit = c.if-not-fits.ensures.0 refl in
-    let first = entry_first rest e (omega (arith, ltb-false)) c.from.ensures c.value.ensures (omega arith) in
+    let first = entry_first rest e (omega (arith, ltb-false)) c.from.ensures (omega arith) (omega arith) in
     let from = fit.0 in
     let below = fit.1 in
     let least = c.loop-rest.invariant.2 in
@@ -66,5 +55,4 @@ returns c =
     let bytes = c.args.bytes.now in
     let es = listed c.loop-rest.entries in
     let all = all_read bytes c.loop-rest.rest.now _ es c.in_ok-rest.ensures c.loop-rest.invariant.0 (omega (arith, ltb-true)) in
-    let one : Reads c.args.next bytes (Ok c.loop-rest.entries) = (c.loop-rest.invariant.1, all) in
-    record { one = one; back = back_from c.args.next bytes (Ok c.loop-rest.entries) one; exact = exact_from c.args.next bytes (Ok c.loop-rest.entries) one }
+    read_from c.args.next bytes (Ok c.loop-rest.entries) (c.loop-rest.invariant.1, all)

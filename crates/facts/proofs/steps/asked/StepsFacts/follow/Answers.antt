@@ -1,29 +1,18 @@
-use Rattle.std.proofs.Common.{sym, subst, arith}
-use Rattle.std.specs.List.{AllByRecursion}
+use Rattle.std.proofs.Common.{arith}
 use Rattle.sets.proofs.Lines.{smallest_same}
-use Rattle.facts.specs.Steps.{IsStep, Closed, Follows}
+use Rattle.facts.specs.Steps.{Closed, Follows}
 use Rattle.facts.specs.Told.{told}
-use Rattle.facts.specs.ClosureLemmas.{Reached, reached_start, reached_more, reached_done, reached_less}
-use Rattle.facts.specs.Stepping.{ObeysAll, told_are, passed_told, follows_from, stepped_follows}
+use Rattle.facts.specs.ClosureLemmas.{reached_done, reached_less}
+use Rattle.facts.specs.Stepping.{ObeysAll, told_are, follows_from, stepped_follows}
 use Rattle.facts.proofs.steps.asked.StepsFacts.follow.Goals as goal
-
-pub pass-requires : goal.pass-requires
-pass-requires g c = subst (AllByRecursion IsStep) (sym c.all_told-steps.ensures) (told_are c.args.self.now)
-
-pub loop-reached-init : goal.loop-reached-init
-loop-reached-init g c =
-    let f = c.args.self.now in
-    let m = g.F.Facts.meaning f.below in
-    subst (Reached m (ObeysAll (told f)) c.args.set) (sym c.follow-reached.ensures) (reached_start m (g.met.F.Facts.lawful f.below) (ObeysAll (told f)) c.args.set (omega arith))
 
 pub returns-then-next-reached : goal.returns-then-next-reached
 returns-then-next-reached g c =
     let f = c.args.self.now in
     let m = g.F.Facts.meaning f.below in
     let lawful = g.met.F.Facts.lawful f.below in
-    let passed = passed_told f c.all_told-steps.result.now c.loop-reached.reached c.pass.result c.all_told-steps.ensures c.pass.ensures in
     let least : Follows m (told f) c.args.set c.loop-reached.reached =
-    follows_from m lawful (told f) (told_are f) c.args.set _ (reached_done m lawful (ObeysAll (told f)) c.args.set _ _ _ c.loop-reached.invariant passed c.follow-next.ensures c.if-next-reached.true) in
+    follows_from m lawful (told f) (told_are f) c.args.set _ (reached_done m lawful (ObeysAll (told f)) c.args.set _ _ _ c.loop-reached.invariant c.pass.ensures c.follow-next.ensures c.if-next-reached.true) in
     record {
       computed = smallest_same (Closed m (told f) c.args.set) _ _ least (stepped_follows m lawful (told f) (told_are f) c.args.set (omega arith));
       smallest = least;
@@ -33,11 +22,4 @@ returns-then-next-reached g c =
 pub loop-reached-smaller : goal.loop-reached-smaller
 loop-reached-smaller g c =
     let f = c.args.self.now in
-    let passed = passed_told f c.all_told-steps.result.now c.loop-reached.reached c.pass.result c.all_told-steps.ensures c.pass.ensures in
-    reached_less (g.F.Facts.meaning f.below) (g.met.F.Facts.lawful f.below) (ObeysAll (told f)) c.args.set _ _ _ c.loop-reached.invariant passed c.follow-next.ensures c.if-next-reached.false
-
-pub loop-reached-preserved : goal.loop-reached-preserved
-loop-reached-preserved g c =
-    let f = c.args.self.now in
-    let passed = passed_told f c.all_told-steps.result.now c.loop-reached.reached c.pass.result c.all_told-steps.ensures c.pass.ensures in
-    reached_more (g.F.Facts.meaning f.below) (g.met.F.Facts.lawful f.below) (ObeysAll (told f)) c.args.set _ _ _ c.loop-reached.invariant passed c.follow-next.ensures
+    reached_less (g.F.Facts.meaning f.below) (g.met.F.Facts.lawful f.below) (ObeysAll (told f)) c.args.set _ _ _ c.loop-reached.invariant c.pass.ensures c.follow-next.ensures c.if-next-reached.false

@@ -1,8 +1,7 @@
-use Rattle.std.proofs.Common.{sym, subst}
-use Rattle.std.specs.List.{AllByRecursion}
-use Rattle.facts.specs.Steps.{IsStep}
-use Rattle.facts.specs.Stepping.{told_are}
+use Rattle.std.proofs.Common.{rules}
+use Rattle.facts.specs.Told.{told}
+use Rattle.facts.specs.Stepping.{named_all}
 use Rattle.facts.proofs.steps.asked.StepsFacts.names.Goals as goal
 
-pub name_all-requires : goal.name_all-requires
-name_all-requires g c = subst (AllByRecursion IsStep) (sym c.all_told.ensures) (told_are c.args.self.now)
+pub returns : goal.returns
+returns g c = rw (named_all (g.F.Facts.meaning c.args.self.now.below).names (told c.args.self.now)) (search rules)
