@@ -1,9 +1,9 @@
-use Rattle.std.proofs.Common.{◌-◌, ◌/◌, ◌%◌, ◌^◌, sym, subst, arith}
+use Rattle.std.proofs.Common.{◌-◌, ◌/◌, ◌%◌, ◌^◌, refl, sym, subst, arith}
 use Rattle.std.proofs.lemmas.Nat.{mod_below}
 use Rattle.std.proofs.lemmas.List.{get_or-replicate}
 use Rattle.sets.specs.Sets.{Has}
 use Rattle.clauses.proofs.Bits.{full_has}
-use Rattle.clauses.proofs.clauses.rows.every_row.Goals as goal
+use Rattle.clauses.proofs.clauses.rows.Rows.every.Goals as goal
 
 pub returns : goal.returns
 returns c row l =
