@@ -189,8 +189,8 @@ module _ (P : ℕ → Type 0) (t : List ℕ) (long : length t ≡ 16) where
       subst (WordAnswer P r) (get_or-enumerate_from 0 t w (0, 0) (omega (arith, long)) ∙ ap (λ k. (k, get_or t w 0)) at) (holds (0, 0))
 
   pub all_from_words :
-    (r : Bool) → MatchBool r (AllWithin (WordAnswer P true) (enumerate_from 0 t) 0 (length (enumerate_from 0 t))) ((w : ℕ) × (w < length (enumerate_from 0 t)) × HoldsAt (WordAnswer P false) (enumerate_from 0 t) w)
-    → Decides r ((row : ℕ) → RowOf t row → P row)
+      (r : Bool) → MatchBool r (AllWithin (WordAnswer P true) (enumerate_from 0 t) 0 (length (enumerate_from 0 t))) ((w : ℕ) × (w < length (enumerate_from 0 t)) × HoldsAt (WordAnswer P false) (enumerate_from 0 t) w)
+      → Decides r ((row : ℕ) → RowOf t row → P row)
   all_from_words true all = (
     λ _ row m.
         let l : row / 64 < 16 = omega (arith, m.0) in

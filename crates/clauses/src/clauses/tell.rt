@@ -27,9 +27,7 @@ impl Clauses {
         ensures senses { SameSenses (sense_of self.old) (sense_of self.new) }
     {
         let added = Clause::new(first, second)?;
-        self.told
-            .try_push(added)
-            .map_err(|_| Refusal::FactsFull)?;
+        self.told.try_push(added).map_err(|_| Refusal::FactsFull)?;
         self.met.meet(added);
         Ok(())
     }
