@@ -155,15 +155,6 @@ module _ (cs : List Clause) (sense : ℕ → Option Clause) (s k : ℕ) (t : Lis
     λ left. (before row r).1 (left.clauses_met, λ n _ i. left.senses_met n i),
   )
 
-  -- at the table of the rows left, what all its rows meet is entailed
-  pub entailed_at : TableOf (Left atom_count cs sense s) t → (n : ℕ) (o : Option Clause) (r : Bool) → o ≡ sense n → Decides r (AllMeet (RowOf t) o) → Decides r (Entailed atom_count cs sense s n)
-  entailed_at left n o r e d =
-      subst (λ p. Decides r (AllMeet (Left atom_count cs sense s) p)) e
-      (Decides-like r
-      (all_meet_fewer (RowOf t) (Left atom_count cs sense s) o (λ row m. (m.is_row, (left row m.is_row).1 m)))
-      (all_meet_fewer (Left atom_count cs sense s) (RowOf t) o (λ row m. (left row m.0).0 m.1))
-      d)
-
 -- ---- whether every row of a table has P, asked word by word
 
 -- those rows of the word that are in x have P, if the rows of the word with P have all of x
@@ -207,10 +198,25 @@ module _ (P : ℕ → Type 0) (t : List ℕ) (long : length t ≡ 16) where
 
 -- ---- the lines for which a test says yes
 
-pub exactly_where : (P : ℕ → Type 0) (s : ℕ) → ((n : ℕ) → Has s n → P n) → ((n : ℕ) → n < 64 → (Has s n → ⊥) → P n → ⊥) → ((n : ℕ) → P n → n < 64) → (n : ℕ) → Exactly (Has s n) (P n)
-exactly_where P s has lacks below n = (has n, λ p. ⊎_elim (λ h. h) (λ z. absurd (lacks n (below n p) (λ h. omega (arith, z, h)) p)) (has_or_not s n))
+-- the test is whether line n has P
+pub exactly_where : (P : ℕ → Type 0) (s : ℕ) → ((n : ℕ) → P n → n < 64) → ((n : ℕ) → Has s n → Decides true (P n)) → ((n : ℕ) → n < 64 → (Has s n → ⊥) → Decides false (P n)) → (n : ℕ) → Exactly (Has s n) (P n)
+exactly_where P s below has lacks n =
+    (λ h. (has n h).0 refl, λ p. ⊎_elim (λ h. h) (λ z. absurd (not_from_Decides false (lacks n (below n p) (λ h. omega (arith, z, h))) refl p)) (has_or_not s n))
 
 -- the lines of a set, and those with P
 pub exactly_or : (P : ℕ → Type 0) (s t : ℕ) → ((n : ℕ) → Exactly (Has t n) (P n)) → (n : ℕ) → Exactly (Has (bit_or s t) n) (Has s n ⊎ P n)
 exactly_or P s t is n =
     (λ h. ⊎_elim inl (λ k. inr ((is n).0 k)) (or_has s t n h), ⊎_elim (or_has_left s t n) (λ p. or_has_right s t n ((is n).1 p)))
+
+-- what was answered whether line n has a sense that every row of the table meets
+abbrev pub LineAnswer : (ℕ → Option Clause) → List ℕ → ℕ → Bool → Type 0
+LineAnswer sense t n r = (o : Option Clause) × (o ≡ sense n) × Decides r (AllMeet (RowOf t) o)
+
+-- at the table of the rows left, that is whether the line is entailed
+pub entailed_at : (cs : List Clause) (sense : ℕ → Option Clause) (s : ℕ) (t : List ℕ) → TableOf (Left atom_count cs sense s) t → (n : ℕ) (r : Bool) → LineAnswer sense t n r → Decides r (Entailed atom_count cs sense s n)
+entailed_at cs sense s t left n r a =
+    subst (λ p. Decides r (AllMeet (Left atom_count cs sense s) p)) a.1
+    (Decides-like r
+    (all_meet_fewer (RowOf t) (Left atom_count cs sense s) a.0 (λ row m. (m.is_row, (left row m.is_row).1 m)))
+    (all_meet_fewer (Left atom_count cs sense s) (RowOf t) a.0 (λ row m. (left row m.0).0 m.1))
+    a.2)

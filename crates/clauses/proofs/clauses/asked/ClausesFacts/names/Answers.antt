@@ -11,5 +11,5 @@ returns c =
     let on = sense_on_lines f in
     let sensed = λ (n : ℕ). is_some (sense_of f n) ≡ true in
     let all : SensedLines (sense_of f) c.lines_where.result =
-    exactly_where sensed _ (λ n h. let m = c.lines_where.ensures.has n h in search rules) (λ n l out e. let m = c.lines_where.ensures.lacks n l out in search rules) on in
-    record { computed = same_by (λ n. is_some (sense_of f n) ≡ true) _ _ all (computed_names atom_count (clauses_of f) (sense_of f) on); sensed = all }
+    exactly_where sensed _ on (λ n h. let said = c.lines_where.ensures.has n h in search rules) (λ n l out. let said = c.lines_where.ensures.lacks n l out in search rules) in
+    record { computed = same_by sensed _ _ all (computed_names atom_count (clauses_of f) (sense_of f) on); sensed = all }
