@@ -1,5 +1,5 @@
 -- Words and tables of rows: what and, or and not make of them, one clause more, and the steps of the loops over atoms, words and senses.
-use Rattle.std.proofs.Common.{◌≡◌, ℕ, ◌+◌, ◌-◌, ◌*◌, ◌/◌, ◌%◌, ◌^◌, ◌<◌, ◌≤◌, Bool, true, false, ◌⊎◌, List, [], ◌∷◌, ◌++◌, length, get_or, set, Decides, Option, refl, sym, ap, ◌∙◌, subst, inl, inr, ⊎_elim, arith}
+use Rattle.std.proofs.Common.{◌≡◌, ℕ, ◌+◌, ◌-◌, ◌*◌, ◌/◌, ◌%◌, ◌^◌, ◌<◌, Bool, true, false, ◌⊎◌, List, [], ◌∷◌, ◌++◌, length, get_or, set, Decides, Option, refl, sym, ap, ◌∙◌, subst, inl, inr, ⊎_elim, arith}
 use native.Mathlib.Decide.{dec_lt, ℕ_discrete}
 use lib.Bits.{bit_and, bit_or}
 use Rattle.std.specs.Bool.{MatchBool}
@@ -8,8 +8,8 @@ use Rattle.std.proofs.lemmas.Nat.{mod_below}
 use Rattle.std.proofs.lemmas.List.{get_or-set_same, get_or-set_other}
 use Rattle.std.proofs.lemmas.List.FromFn.{get_or-enumerate_from, length-enumerate_from}
 use Rattle.std.proofs.lemmas.Bool.Decides.{Decides-like, not_from_Decides}
-use Rattle.sets.specs.Sets.{Has, Within, IsLines}
-use Rattle.sets.proofs.Lines.{has_or_not, has_under, has_below, none_has, or_has, or_has_left, or_has_right, and_has, and_has_left, and_has_right}
+use Rattle.sets.specs.Sets.{Has, Within}
+use Rattle.sets.proofs.Lines.{has_or_not, has_under, has_below, or_has, or_has_left, or_has_right, and_has, and_has_left, and_has_right}
 use Rattle.sets.proofs.Rows.{all_push, all_pushed}
 use Rattle.clauses.specs.Rows.{Exactly, IsClause, Meets, MeetsAll, MeetsBy, MeetsSense, AllMeet, Left, Entailed, atom_count}
 use Rattle.clauses.specs.Words.{InTable, RowOf, TableOf, WordOf, Narrowed}
@@ -19,9 +19,6 @@ use Rattle.clauses.specs.Deciding.{table_from_narrowed, narrowed_from_table}
 use Rattle.clauses.specs.Entailing.{all_meet_fewer}
 
 -- ---- words
-
-pub word_none : (P : ℕ → Type 0) (w : ℕ) → ((row : ℕ) → P row → ⊥) → WordOf P w 0
-word_none P w out row e = (λ h. absurd (none_has (row % 64) h), λ p. absurd (out row p))
 
 pub word_or : (P Q : ℕ → Type 0) (w x y : ℕ) → WordOf P w x → WordOf Q w y → WordOf (λ row. P row ⊎ Q row) w (bit_or x y)
 word_or P Q w x y p q row e = (
@@ -51,9 +48,6 @@ word_same P R Q w x p out = word_like P (λ row. P row ⊎ (Q × R row)) w x (λ
 -- the row meets the clause by an atom below k
 abbrev pub MeetsBelow : Clause → ℕ → ℕ → Type 0
 MeetsBelow c k row = (a : ℕ) × (a < k) × MeetsBy c row a
-
-pub below_none : (c : Clause) (w : ℕ) → WordOf (MeetsBelow c 0) w 0
-below_none c w = word_none (MeetsBelow c 0) w (λ row k. omega (arith, k.1))
 
 -- the rows that meet it by the next atom are added: those that say yes, and those that say no
 abbrev pub MeetsYes : Clause → ℕ → ℕ → Type 0
@@ -147,13 +141,6 @@ module _ (cs : List Clause) (sense : ℕ → Option Clause) (s k : ℕ) (t : Lis
         λ all. (all.0, λ n l. all.1 n (omega arith)),
       ))
       before
-
-  -- no line of s is above
-  pub left_all : TableOf (LeftBelow cs sense s k) t → 64 ≤ k → IsLines s → TableOf (Left atom_count cs sense s) t
-  left_all before l lines row r = (
-    λ h. let m = (before row r).0 h in record { is_row = r; clauses_met = m.0; senses_met = λ n i. m.1 n (omega (arith, has_below s n lines i)) i },
-    λ left. (before row r).1 (left.clauses_met, λ n _ i. left.senses_met n i),
-  )
 
 -- ---- whether every row of a table has P, asked word by word
 

@@ -1,10 +1,10 @@
-use Rattle.std.proofs.Common.{◌+◌, sym, subst, arith}
+use Rattle.std.proofs.Common.{◌+◌, sym, subst}
 use Rattle.std.proofs.lemmas.Bool.Decides.{not_from_Decides}
 use Rattle.clauses.specs.Rows.{MeetsSense}
 use Rattle.clauses.specs.Told.{clauses_of, sense_of}
 use Rattle.clauses.specs.Words.{InTable, TableOf}
 use Rattle.clauses.specs.Deciding.{table_from_narrowed}
-use Rattle.clauses.proofs.Masks.{LeftBelow, left_none, left_more, left_same, left_all}
+use Rattle.clauses.proofs.Masks.{LeftBelow, left_none, left_more, left_same}
 use Rattle.clauses.proofs.clauses.Clauses.left.Goals as goal
 use Rattle.clauses.proofs.clauses.Clauses.left.Goals.{then-has, else-has}
 
@@ -28,8 +28,3 @@ loop-line-preserved c =
           subst (λ r. TableOf (LeftBelow (clauses_of f) (sense_of f) set (line + 1)) r.words) (sym w.rows-is)
           (left_same (clauses_of f) (sense_of f) set line rows c.loop-line.invariant (not_from_Decides c.has.result c.has.ensures w.if-has.false))
     ]
-
-pub returns : goal.returns
-returns c =
-    let f = c.args.self.now in
-    left_all (clauses_of f) (sense_of f) c.args.set c.loop-line.line c.loop-line.rows.words c.loop-line.invariant c.loop-line-test.false (omega arith)

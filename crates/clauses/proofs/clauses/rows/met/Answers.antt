@@ -3,12 +3,9 @@ use Rattle.std.proofs.lemmas.Bool.Decides.{not_from_Decides}
 use Rattle.sets.specs.Sets.{Has}
 use Rattle.clauses.specs.Words.{WordOf}
 use Rattle.clauses.specs.Rows.{IsClause, atom_count}
-use Rattle.clauses.proofs.Masks.{MeetsBelow, MeetsYes, MeetsEither, below_none, below_more, below_all, word_more, word_same, word_not}
+use Rattle.clauses.proofs.Masks.{MeetsBelow, MeetsYes, MeetsEither, below_more, below_all, word_more, word_same, word_not}
 use Rattle.clauses.proofs.clauses.rows.met.Goals as goal
 use Rattle.clauses.proofs.clauses.rows.met.Goals.{then-has, else-has, then-has-2, else-has-2}
-
-pub loop-atom-init : goal.loop-atom-init
-loop-atom-init c = below_none c.args.clause c.args.word
 
 pub loop-atom-preserved : goal.loop-atom-preserved
 loop-atom-preserved c =

@@ -1,11 +1,8 @@
-use Rattle.std.proofs.Common.{◌≢◌, get_or, refl, ◌∙◌, arith}
+use Rattle.std.proofs.Common.{◌≢◌, get_or, ◌∙◌, arith}
 use Rattle.std.proofs.lemmas.List.{length-set, get_or-set_other}
 use Rattle.clauses.specs.Rows.{Meets}
 use Rattle.clauses.proofs.Masks.{words_more}
 use Rattle.clauses.proofs.clauses.rows.Rows.meet.Goals as goal
-
-pub loop-word-init : goal.loop-word-init
-loop-word-init c = (c.args.self.now.whole, λ row l. absurd (omega arith), λ k l. refl)
 
 pub loop-word-preserved : goal.loop-word-preserved
 loop-word-preserved c =
@@ -16,9 +13,3 @@ loop-word-preserved c =
       words_more (Meets c.args.clause) c.args.self.now.words words w (get_or words w 0) c.met.result (omega (arith, i.0)) (i.2 w (omega arith)) i.1 c.met.ensures,
       λ k l. let other : k ≢ w = omega arith in get_or-set_other words w k _ 0 other ∙ i.2 k (omega arith),
     )
-
-pub invariant_of-self : goal.invariant_of-self
-invariant_of-self c = record { whole = c.loop-word.invariant.0 }
-
-pub returns : goal.returns
-returns c row l = c.loop-word.invariant.1 row (omega arith)
