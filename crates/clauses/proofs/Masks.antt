@@ -1,12 +1,15 @@
 -- Words and tables of rows: what and, or and not make of them, one clause more, and the steps of the loops over atoms, words and senses.
-use Rattle.std.proofs.Common.{◌≡◌, ℕ, ◌+◌, ◌-◌, ◌*◌, ◌/◌, ◌%◌, ◌^◌, ◌<◌, ◌≤◌, Bool, ◌⊎◌, List, [], ◌∷◌, ◌++◌, length, get_or, set, Decides, Option, sym, ap, ◌∙◌, subst, inl, inr, ⊎_elim, arith}
+use Rattle.std.proofs.Common.{◌≡◌, ℕ, ◌+◌, ◌-◌, ◌*◌, ◌/◌, ◌%◌, ◌^◌, ◌<◌, Bool, true, false, ◌⊎◌, List, [], ◌∷◌, ◌++◌, length, get_or, set, Decides, Option, refl, sym, ap, ◌∙◌, subst, inl, inr, ⊎_elim, arith}
 use native.Mathlib.Decide.{dec_lt, ℕ_discrete}
 use lib.Bits.{bit_and, bit_or}
+use Rattle.std.specs.Bool.{MatchBool}
+use Rattle.std.specs.List.{AllWithin, HoldsAt, enumerate_from}
 use Rattle.std.proofs.lemmas.Nat.{mod_below}
 use Rattle.std.proofs.lemmas.List.{get_or-set_same, get_or-set_other}
-use Rattle.std.proofs.lemmas.Bool.Decides.{Decides-like}
-use Rattle.sets.specs.Sets.{Has, Within, IsLines}
-use Rattle.sets.proofs.Lines.{has_or_not, has_under, has_below, none_has, or_has, or_has_left, or_has_right, and_has, and_has_left, and_has_right}
+use Rattle.std.proofs.lemmas.List.FromFn.{get_or-enumerate_from, length-enumerate_from}
+use Rattle.std.proofs.lemmas.Bool.Decides.{Decides-like, not_from_Decides}
+use Rattle.sets.specs.Sets.{Has, Within}
+use Rattle.sets.proofs.Lines.{has_or_not, has_under, has_below, or_has, or_has_left, or_has_right, and_has, and_has_left, and_has_right}
 use Rattle.sets.proofs.Rows.{all_push, all_pushed}
 use Rattle.clauses.specs.Rows.{Exactly, IsClause, Meets, MeetsAll, MeetsBy, MeetsSense, AllMeet, Left, Entailed, atom_count}
 use Rattle.clauses.specs.Words.{InTable, RowOf, TableOf, WordOf, Narrowed}
@@ -16,9 +19,6 @@ use Rattle.clauses.specs.Deciding.{table_from_narrowed, narrowed_from_table}
 use Rattle.clauses.specs.Entailing.{all_meet_fewer}
 
 -- ---- words
-
-pub word_none : (P : ℕ → Type 0) (w : ℕ) → ((row : ℕ) → P row → ⊥) → WordOf P w 0
-word_none P w out row e = (λ h. absurd (none_has (row % 64) h), λ p. absurd (out row p))
 
 pub word_or : (P Q : ℕ → Type 0) (w x y : ℕ) → WordOf P w x → WordOf Q w y → WordOf (λ row. P row ⊎ Q row) w (bit_or x y)
 word_or P Q w x y p q row e = (
@@ -36,12 +36,12 @@ word_not P w x l p row e =
 pub word_like : (P Q : ℕ → Type 0) (w x : ℕ) → ((row : ℕ) → Exactly (P row) (Q row)) → WordOf P w x → WordOf Q w x
 word_like P Q w x same p row e = (λ h. (same row).0 ((p row e).0 h), λ q. (p row e).1 ((same row).1 q))
 
--- where a fact that is the same for all rows holds, or does not
-pub word_given : (P : ℕ → Type 0) (Q : Type 0) (w x : ℕ) → Q → WordOf P w x → WordOf (λ row. Q × P row) w x
-word_given P Q w x q p = word_like P (λ row. Q × P row) w x (λ row. (λ k. (q, k), λ k. k.1)) p
+-- rows that are added if a fact holds that is the same for all of them: where it holds, and where it does not
+pub word_more : (P R : ℕ → Type 0) (Q : Type 0) (w x y : ℕ) → WordOf P w x → Q → WordOf R w y → WordOf (λ row. P row ⊎ (Q × R row)) w (bit_or x y)
+word_more P R Q w x y p q r = word_or P (λ row. Q × R row) w x y p (word_like R (λ row. Q × R row) w y (λ row. (λ k. (q, k), λ k. k.1)) r)
 
-pub word_not_given : (P : ℕ → Type 0) (Q : Type 0) (w : ℕ) → (Q → ⊥) → WordOf (λ row. Q × P row) w 0
-word_not_given P Q w out = word_none (λ row. Q × P row) w (λ row k. out k.0)
+pub word_same : (P R : ℕ → Type 0) (Q : Type 0) (w x : ℕ) → WordOf P w x → (Q → ⊥) → WordOf (λ row. P row ⊎ (Q × R row)) w x
+word_same P R Q w x p out = word_like P (λ row. P row ⊎ (Q × R row)) w x (λ row. (inl, ⊎_elim (λ k. k) (λ k. absurd (out k.0)))) p
 
 -- ---- the loop over the atoms
 
@@ -49,17 +49,24 @@ word_not_given P Q w out = word_none (λ row. Q × P row) w (λ row k. out k.0)
 abbrev pub MeetsBelow : Clause → ℕ → ℕ → Type 0
 MeetsBelow c k row = (a : ℕ) × (a < k) × MeetsBy c row a
 
-pub below_none : (c : Clause) (w : ℕ) → WordOf (MeetsBelow c 0) w 0
-below_none c w = word_none (MeetsBelow c 0) w (λ row k. omega (arith, k.1))
+-- the rows that meet it by the next atom are added: those that say yes, and those that say no
+abbrev pub MeetsYes : Clause → ℕ → ℕ → Type 0
+MeetsYes c k row = MeetsBelow c k row ⊎ (Has c.first k × Has row k)
 
-pub below_more : (c : Clause) (k w x y : ℕ) → WordOf (MeetsBelow c k) w x → WordOf (λ row. MeetsBy c row k) w y → WordOf (MeetsBelow c (k + 1)) w (bit_or x y)
-below_more c k w x y p q =
-    word_like (λ row. MeetsBelow c k row ⊎ MeetsBy c row k) (MeetsBelow c (k + 1)) w (bit_or x y)
+abbrev pub MeetsEither : Clause → ℕ → ℕ → Type 0
+MeetsEither c k row = MeetsYes c k row ⊎ (Has c.second k × (Has row k → ⊥))
+
+pub below_more : (c : Clause) (k w x : ℕ) → WordOf (MeetsEither c k) w x → WordOf (MeetsBelow c (k + 1)) w x
+below_more c k w x p =
+    word_like (MeetsEither c k) (MeetsBelow c (k + 1)) w x
     (λ row. (
-      ⊎_elim (λ m. (m.0, omega (arith, m.1), m.2)) (λ m. (k, omega arith, m)),
-      λ m. elim (dec_lt m.0 k) [ yes l ↦ inl (m.0, l, m.2) | no l ↦ let e : m.0 ≡ k = omega (arith, m.1) in inr (subst (MeetsBy c row) e m.2) ],
+      ⊎_elim (⊎_elim (λ m. (m.0, omega (arith, m.1), m.2)) (λ y. (k, omega arith, inl y))) (λ n. (k, omega arith, inr n)),
+      λ m. elim (dec_lt m.0 k) [
+        | yes l ↦ inl (inl (m.0, l, m.2))
+        | no l ↦ let e : m.0 ≡ k = omega (arith, m.1) in ⊎_elim (λ y. inl (inr y)) inr (subst (MeetsBy c row) e m.2)
+      ],
     ))
-    (word_or (MeetsBelow c k) (λ row. MeetsBy c row k) w x y p q)
+    p
 
 pub below_all : (c : Clause) (atoms w x : ℕ) → IsClause atoms c → WordOf (MeetsBelow c atoms) w x → WordOf (Meets c) w x
 below_all c atoms w x is p =
@@ -81,18 +88,17 @@ table_then P Q R t u same p q row l =
 abbrev pub WordsBelow : (ℕ → Type 0) → List ℕ → ℕ → List ℕ → Type 0
 WordsBelow P t w u = (row : ℕ) → row / 64 < w → Exactly (InTable u row) (InTable t row × P row)
 
-pub words_more : (P : ℕ → Type 0) (t u : List ℕ) (w x : ℕ) → w < length u → WordsBelow P t w u → WordOf P w x → WordsBelow P t (w + 1) (set u w (bit_and (get_or t w 0) x))
-words_more P t u w x l below here row m = elim (ℕ_discrete (row / 64) w) [
+pub words_more : (P : ℕ → Type 0) (t u : List ℕ) (w y x : ℕ) → w < length u → y ≡ get_or t w 0 → WordsBelow P t w u → WordOf P w x → WordsBelow P t (w + 1) (set u w (bit_and y x))
+words_more P t u w y x l is below here row m = elim (ℕ_discrete (row / 64) w) [
   | yes e ↦
       let b = row % 64 in
-      let y = get_or t w 0 in
       let new : get_or (set u w (bit_and y x)) (row / 64) 0 ≡ bit_and y x = ap (λ i. get_or (set u w (bit_and y x)) i 0) e ∙ get_or-set_same u w (bit_and y x) 0 l in
-      let old : get_or t (row / 64) 0 ≡ y = ap (λ i. get_or t i 0) e in (
+      let old : get_or t (row / 64) 0 ≡ y = ap (λ i. get_or t i 0) e ∙ sym is in (
         λ h. let k = subst (λ z. Has z b) new h in (subst (λ z. Has z b) (sym old) (and_has_left y x b k), (here row e).0 (and_has_right y x b k)),
         λ k. subst (λ z. Has z b) (sym new) (and_has y x b (subst (λ z. Has z b) old k.0) ((here row e).1 k.1)),
       )
   | no other ↦
-      let same = get_or-set_other u w (row / 64) (bit_and (get_or t w 0) x) 0 other in
+      let same = get_or-set_other u w (row / 64) (bit_and y x) 0 other in
       let before = below row (omega arith) in
       (λ h. before.0 (subst (λ z. Has z (row % 64)) same h), λ k. subst (λ z. Has z (row % 64)) (sym same) (before.1 k))
 ]
@@ -136,35 +142,68 @@ module _ (cs : List Clause) (sense : ℕ → Option Clause) (s k : ℕ) (t : Lis
       ))
       before
 
-  -- no line of s is above
-  pub left_all : TableOf (LeftBelow cs sense s k) t → 64 ≤ k → IsLines s → TableOf (Left atom_count cs sense s) t
-  left_all before l lines row r = (
-    λ h. let m = (before row r).0 h in record { is_row = r; clauses_met = m.0; senses_met = λ n i. m.1 n (omega (arith, has_below s n lines i)) i },
-    λ left. (before row r).1 (left.clauses_met, λ n _ i. left.senses_met n i),
+-- ---- whether every row of a table has P, asked word by word
+
+-- those rows of the word that are in x have P, if the rows of the word with P have all of x
+pub all_from_within : (P : ℕ → Type 0) (w x y : ℕ) → WordOf P w y → Within x y → (row : ℕ) → row / 64 ≡ w → Has x (row % 64) → P row
+all_from_within P w x y here within row e h = (here row e).0 (within (row % 64) h)
+
+pub within_from_all : (P : ℕ → Type 0) (w x y : ℕ) → WordOf P w y → x < 2 ^ 64 → ((row : ℕ) → row / 64 ≡ w → Has x (row % 64) → P row) → Within x y
+within_from_all P w x y here fits all n h =
+    let small = has_below x n fits h in
+    let up : (64 * w + n) / 64 ≡ w = omega arith in
+    let low : n ≡ (64 * w + n) % 64 = omega arith in
+    subst (Has y) (sym low) ((here (64 * w + n) up).1 (all (64 * w + n) up (subst (Has x) low h)))
+
+-- what was answered at a word of the table, which comes with its number
+abbrev pub WordAnswer : (ℕ → Type 0) → Bool → ℕ × ℕ → Type 0
+WordAnswer P r p = Decides r ((row : ℕ) → row / 64 ≡ p.0 → Has p.1 (row % 64) → P row)
+
+module _ (P : ℕ → Type 0) (t : List ℕ) (long : length t ≡ 16) where
+  -- the answer at word w
+  answer_at : (w : ℕ) (r : Bool) → w < 16 → HoldsAt (WordAnswer P r) (enumerate_from 0 t) w → WordAnswer P r (w, get_or t w 0)
+  answer_at w r l holds =
+      let at : 0 + w ≡ w = omega arith in
+      subst (WordAnswer P r) (get_or-enumerate_from 0 t w (0, 0) (omega (arith, long)) ∙ ap (λ k. (k, get_or t w 0)) at) (holds (0, 0))
+
+  pub all_from_words :
+      (r : Bool) → MatchBool r (AllWithin (WordAnswer P true) (enumerate_from 0 t) 0 (length (enumerate_from 0 t))) ((w : ℕ) × (w < length (enumerate_from 0 t)) × HoldsAt (WordAnswer P false) (enumerate_from 0 t) w)
+      → Decides r ((row : ℕ) → RowOf t row → P row)
+  all_from_words true all = (
+    λ _ row m.
+        let l : row / 64 < 16 = omega (arith, m.0) in
+        (answer_at (row / 64) true l (λ d. all (row / 64) d (omega arith) (omega (arith, length-enumerate_from 0 t, long)))).0 refl row refl m.1,
+    λ _. refl,
+  )
+  all_from_words false some = (
+    λ e. grind arith,
+    λ all.
+        let l : some.0 < 16 = omega (arith, some.1, length-enumerate_from 0 t, long) in
+        absurd (not_from_Decides false (answer_at some.0 false l some.2) refl
+        (λ row e h. all row (omega (arith, e, l), subst (λ w. Has (get_or t w 0) (row % 64)) (sym e) h))),
   )
 
-  -- at the table of the rows left, what all its rows meet is entailed
-  pub entailed_at : TableOf (Left atom_count cs sense s) t → (n : ℕ) (o : Option Clause) (r : Bool) → o ≡ sense n → Decides r (AllMeet (RowOf t) o) → Decides r (Entailed atom_count cs sense s n)
-  entailed_at left n o r e d =
-      subst (λ p. Decides r (AllMeet (Left atom_count cs sense s) p)) e
-      (Decides-like r
-      (all_meet_fewer (RowOf t) (Left atom_count cs sense s) o (λ row m. (m.is_row, (left row m.is_row).1 m)))
-      (all_meet_fewer (Left atom_count cs sense s) (RowOf t) o (λ row m. (left row m.0).0 m.1))
-      d)
+-- ---- the lines for which a test says yes
 
--- ---- the loop that asks whether every row of a table has P
+-- the test is whether line n has P
+pub exactly_where : (P : ℕ → Type 0) (s : ℕ) → ((n : ℕ) → P n → n < 64) → ((n : ℕ) → Has s n → Decides true (P n)) → ((n : ℕ) → n < 64 → (Has s n → ⊥) → Decides false (P n)) → (n : ℕ) → Exactly (Has s n) (P n)
+exactly_where P s below has lacks n =
+    (λ h. (has n h).0 refl, λ p. ⊎_elim (λ h. h) (λ z. absurd (not_from_Decides false (lacks n (below n p) (λ h. omega (arith, z, h))) refl p)) (has_or_not s n))
 
-module _ (P : ℕ → Type 0) (t : List ℕ) (w x : ℕ) (here : WordOf P w x) where
-  pub all_more : ((row : ℕ) → row / 64 < w → InTable t row → P row) → Within (get_or t w 0) x → (row : ℕ) → row / 64 < w + 1 → InTable t row → P row
-  all_more below within row l h = elim (ℕ_discrete (row / 64) w) [
-    | yes e ↦ (here row e).0 (within (row % 64) (subst (λ i. Has (get_or t i 0) (row % 64)) e h))
-    | no other ↦ below row (omega arith) h
-  ]
+-- the lines of a set, and those with P
+pub exactly_or : (P : ℕ → Type 0) (s t : ℕ) → ((n : ℕ) → Exactly (Has t n) (P n)) → (n : ℕ) → Exactly (Has (bit_or s t) n) (Has s n ⊎ P n)
+exactly_or P s t is n =
+    (λ h. ⊎_elim inl (λ k. inr ((is n).0 k)) (or_has s t n h), ⊎_elim (or_has_left s t n) (λ p. or_has_right s t n ((is n).1 p)))
 
-  pub within_from_all : w < 16 → get_or t w 0 < 2 ^ 64 → ((row : ℕ) → RowOf t row → P row) → Within (get_or t w 0) x
-  within_from_all l fits all n h =
-      let small = has_below (get_or t w 0) n fits h in
-      let up : (64 * w + n) / 64 ≡ w = omega arith in
-      let low : (64 * w + n) % 64 ≡ n = omega arith in
-      let in_table : InTable t (64 * w + n) = subst (λ i. Has (get_or t i 0) ((64 * w + n) % 64)) (sym up) (subst (Has (get_or t w 0)) (sym low) h) in
-      subst (Has x) low ((here (64 * w + n) up).1 (all (64 * w + n) (omega arith, in_table)))
+-- what was answered whether line n has a sense that every row of the table meets
+abbrev pub LineAnswer : (ℕ → Option Clause) → List ℕ → ℕ → Bool → Type 0
+LineAnswer sense t n r = (o : Option Clause) × (o ≡ sense n) × Decides r (AllMeet (RowOf t) o)
+
+-- at the table of the rows left, that is whether the line is entailed
+pub entailed_at : (cs : List Clause) (sense : ℕ → Option Clause) (s : ℕ) (t : List ℕ) → TableOf (Left atom_count cs sense s) t → (n : ℕ) (r : Bool) → LineAnswer sense t n r → Decides r (Entailed atom_count cs sense s n)
+entailed_at cs sense s t left n r a =
+    subst (λ p. Decides r (AllMeet (Left atom_count cs sense s) p)) a.1
+    (Decides-like r
+    (all_meet_fewer (RowOf t) (Left atom_count cs sense s) a.0 (λ row m. (m.is_row, (left row m.is_row).1 m)))
+    (all_meet_fewer (Left atom_count cs sense s) (RowOf t) a.0 (λ row m. (left row m.0).0 m.1))
+    a.2)

@@ -3,7 +3,8 @@ use Rattle.std.specs.Prelude.{◌≡◌, ℕ, ◌<◌, true, false, List, length
 use Rattle.std.proofs.Common.{sym, ap, ◌∙◌, inl, inr, ⊎_elim, arith}
 use Rattle.std.proofs.Math.Decide.{dec_lt}
 use Rattle.std.proofs.lemmas.Nat.{or_lt}
-use Rattle.std.proofs.lemmas.List.{get_or_past, length-take-le}
+use Rattle.std.proofs.lemmas.List.{get_or_past}
+use Rattle.arrayvec.specs.ArrayVec.{array_vec_len}
 use Rattle.sets.specs.Sets.{Has, Within, IsLines}
 use Rattle.sets.proofs.Lines.{or_has, or_has_left, or_has_right, none_has, same_lines}
 use Rattle.facts.specs.Meaning.{Lawful}
@@ -29,8 +30,8 @@ sense_on_lines f n e = elim (dec_lt n 64) [
   | no l ↦ let out : false ≡ true = sym (ap is_some (get_or_past f.senses n None (omega (arith, f.lines)))) ∙ e in absurd (grind arith)
 ]
 
-pub told_length : (f : Clauses) → length (clauses_of f) ≡ f.count
-told_length f = length-take-le f.count f.told (omega (arith, f.long, f.few))
+pub told_length : (f : Clauses) → length (clauses_of f) ≡ array_vec_len f.told
+told_length f = refl
 
 -- what all rows with P meet is a sense, all rows with less meet it, and each does
 pub all_meet_some : (P : ℕ → Type 0) (o : Option Clause) → AllMeet P o → is_some o ≡ true

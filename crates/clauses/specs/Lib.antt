@@ -1,3 +1,4 @@
+pub mod Clause
 pub mod Rows
 pub mod Computed
 pub mod Words

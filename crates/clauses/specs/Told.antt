@@ -1,5 +1,5 @@
 -- What was told to facts of the kind `Clauses`: the clauses in order, and the sense of each line; and when more is refused.
-use Rattle.std.specs.Prelude.{◌≡◌, ℕ, ◌^◌, ◌<◌, ◌≤◌, true, ◌≢◌, ◌⊎◌, List, [], ◌∷◌, ◌++◌, length, take, is_some, Some, None, Option, Result, slice_index_or}
+use Rattle.std.specs.Prelude.{◌≡◌, ℕ, ◌^◌, ◌<◌, ◌≤◌, true, ◌≢◌, ◌⊎◌, List, [], ◌∷◌, ◌++◌, length, is_some, Some, None, Option, Result, slice_index_or}
 use Rattle.sets.specs.Grounds.{Ground, Answered}
 use Rattle.sets.specs.declared.refusal.Refusal.{Refusal}
 use Rattle.sets.specs.declared.refusal.Refusal.TheVariants.{OutOfRange, AtomsTooHigh, FactsFull, HasSense}
@@ -8,7 +8,7 @@ use Rattle.clauses.specs.declared.clause.Clause.{Clause}
 use Rattle.clauses.specs.declared.clauses.Clauses.{Clauses}
 
 abbrev pub clauses_of : Clauses → List Clause
-clauses_of f = take f.count f.told
+clauses_of f = f.told.items
 
 abbrev pub sense_of : Clauses → ℕ → Option Clause
 sense_of f n = slice_index_or f.senses n None
@@ -16,6 +16,10 @@ sense_of f n = slice_index_or f.senses n None
 -- one of the sets has an atom above the highest
 abbrev pub TooHigh : ℕ → ℕ → Type 0
 TooHigh first second = (2 ^ atom_count ≤ first) ⊎ (2 ^ atom_count ≤ second)
+
+-- a clause is none if its atoms are too high
+abbrev pub atom_grounds : ℕ → ℕ → List Ground
+atom_grounds first second = record { gives = AtomsTooHigh; when = TooHigh first second } ∷ []
 
 -- a clause is refused if its atoms are too high, then if there are as many clauses as there may be
 abbrev pub clause_grounds : List Clause → ℕ → ℕ → List Ground

@@ -1,6 +1,6 @@
 // Cases over `Given`, alone and above and below `Steps`.
-use crate::report::{Answer, Tally};
-use crate::rows::{FollowRow, StepRow, ask_all, ask_names, tell_steps};
+use crate::report::Report;
+use crate::rows::{FollowRow, NamesRow, StepRow};
 use facts::Bare;
 use facts::given::Given;
 use facts::steps::Steps;
@@ -26,10 +26,7 @@ const SALTED: [FollowRow; 4] = [
 const AS_BARE: [FollowRow; 2] = [FollowRow(0, 0), FollowRow(SOUP, SOUP)];
 
 // Salted soup brings bread, bread brings butter.
-const TOLD: [StepRow; 2] = [
-    StepRow(SALT | SOUP, 2, Answer::Done),
-    StepRow(BREAD, 3, Answer::Done),
-];
+const TOLD: [StepRow; 2] = [StepRow(SALT | SOUP, 2, Ok(())), StepRow(BREAD, 3, Ok(()))];
 
 const BROUGHT: [FollowRow; 3] = [
     FollowRow(0, SALT),
@@ -39,28 +36,28 @@ const BROUGHT: [FollowRow; 3] = [
 
 const NAMED: u64 = SALT | SOUP | BREAD | BUTTER;
 
-pub fn run(rt: &HostRuntime, tally: &mut Tally) -> io::Result<()> {
-    println!(rt; "= Given 0 63 over Bare")?;
+pub fn run(report: &mut Report) -> io::Result<()> {
+    report.title("Given 0 63 over Bare")?;
     let facts = Given::new(Bare, SALT | WATER);
-    ask_all(rt, tally, &facts, &SALTED)?;
-    ask_names(rt, tally, &facts, SALT | WATER)?;
-    println!(rt; "= Given none over Bare")?;
+    report.run(&SALTED, |row| row.ask(&facts))?;
+    report.run(&[NamesRow(SALT | WATER)], |row| row.ask(&facts))?;
+    report.title("Given none over Bare")?;
     let facts = Given::new(Bare, 0);
-    ask_all(rt, tally, &facts, &AS_BARE)?;
-    ask_names(rt, tally, &facts, 0)?;
-    run_layers(rt, tally)
+    report.run(&AS_BARE, |row| row.ask(&facts))?;
+    report.run(&[NamesRow(0)], |row| row.ask(&facts))?;
+    run_layers(report)
 }
 
-fn run_layers(rt: &HostRuntime, tally: &mut Tally) -> io::Result<()> {
-    println!(rt; "= Given 0 over Steps over Bare")?;
+fn run_layers(report: &mut Report) -> io::Result<()> {
+    report.title("Given 0 over Steps over Bare")?;
     let mut steps = Steps::new(Bare);
-    tell_steps(rt, tally, &mut steps, &TOLD)?;
+    report.run(&TOLD, |row| row.tell(&mut steps))?;
     let facts = Given::new(steps, SALT);
-    ask_all(rt, tally, &facts, &BROUGHT)?;
-    ask_names(rt, tally, &facts, NAMED)?;
-    println!(rt; "= Steps over Given 0 over Bare")?;
+    report.run(&BROUGHT, |row| row.ask(&facts))?;
+    report.run(&[NamesRow(NAMED)], |row| row.ask(&facts))?;
+    report.title("Steps over Given 0 over Bare")?;
     let mut facts = Steps::new(Given::new(Bare, SALT));
-    tell_steps(rt, tally, &mut facts, &TOLD)?;
-    ask_all(rt, tally, &facts, &BROUGHT)?;
-    ask_names(rt, tally, &facts, NAMED)
+    report.run(&TOLD, |row| row.tell(&mut facts))?;
+    report.run(&BROUGHT, |row| row.ask(&facts))?;
+    report.run(&[NamesRow(NAMED)], |row| row.ask(&facts))
 }

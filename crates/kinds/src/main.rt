@@ -8,18 +8,14 @@ mod report;
 mod rows;
 mod step_cases;
 
-use crate::report::Tally;
+use crate::report::Report;
 use std::io;
 
 fn main(rt: HostRuntime) -> io::Result<()> {
-    let mut tally = Tally {
-        cases: 0,
-        failed: 0,
-    };
-    step_cases::run(&rt, &mut tally)?;
-    given_cases::run(&rt, &mut tally)?;
-    clause_cases::run(&rt, &mut tally)?;
-    house_cases::run(&rt, &mut tally)?;
-    let Tally { cases, failed } = tally;
-    println!(rt; "{cases} cases, {failed} failed")
+    let mut report = Report::new(&rt);
+    step_cases::run(&mut report)?;
+    given_cases::run(&mut report)?;
+    clause_cases::run(&mut report)?;
+    house_cases::run(&mut report)?;
+    report.end()
 }

@@ -1,103 +1,141 @@
-// The rows of the tables, and how each is run.
-use crate::report::{Answer, Members, Tally};
+// The rows of the tables: how each is printed, asked, and what it should be answered.
+use crate::report::{Members, Said};
 use clauses::clauses::Clauses;
 use facts::Facts;
 use facts::steps::Steps;
-use sets::refusal::Refusal;
-use std::io;
+use std::fmt;
+
+// A row of a table, printed as what is asked.
+pub trait Row: fmt::Display {
+    type Answer: Copy + PartialEq + fmt::Display;
+
+    // The answer that the table says.
+    fn expected(&self) -> Self::Answer;
+}
 
 // `step(needs, gives)` and its answer.
 #[derive(Clone, Copy)]
-pub struct StepRow(pub u64, pub u32, pub Answer);
+pub struct StepRow(pub u64, pub u32, pub Result<(), u32>);
+
+impl StepRow {
+    pub fn tell<F>(&self, facts: &mut Steps<F>) -> Said {
+        Said::from(facts.step(self.0, self.1))
+    }
+}
+
+impl fmt::Display for StepRow {
+    fn fmt<W: fmt::Write>(&self, f: &mut fmt::Formatter<W>) -> fmt::Result {
+        let StepRow(needs, gives, _) = *self;
+        let lines = Members(needs);
+        write!(f, "step{lines} gives {gives}")
+    }
+}
+
+impl Row for StepRow {
+    type Answer = Said;
+
+    fn expected(&self) -> Said {
+        Said(self.2)
+    }
+}
 
 // `clause(first, second)` and its answer.
 #[derive(Clone, Copy)]
-pub struct ClauseRow(pub u32, pub u32, pub Answer);
+pub struct ClauseRow(pub u32, pub u32, pub Result<(), u32>);
+
+impl ClauseRow {
+    pub fn tell(&self, facts: &mut Clauses) -> Said {
+        Said::from(facts.clause(self.0, self.1))
+    }
+}
+
+impl fmt::Display for ClauseRow {
+    fn fmt<W: fmt::Write>(&self, f: &mut fmt::Formatter<W>) -> fmt::Result {
+        let ClauseRow(first, second, _) = *self;
+        let (yes, no) = (Members(first as u64), Members(second as u64));
+        write!(f, "clause yes{yes} or no{no}")
+    }
+}
+
+impl Row for ClauseRow {
+    type Answer = Said;
+
+    fn expected(&self) -> Said {
+        Said(self.2)
+    }
+}
 
 // `sense(line, first, second)` and its answer.
 #[derive(Clone, Copy)]
-pub struct SenseRow(pub u32, pub u32, pub u32, pub Answer);
+pub struct SenseRow(pub u32, pub u32, pub u32, pub Result<(), u32>);
+
+impl SenseRow {
+    pub fn tell(&self, facts: &mut Clauses) -> Said {
+        Said::from(facts.sense(self.0, self.1, self.2))
+    }
+}
+
+impl fmt::Display for SenseRow {
+    fn fmt<W: fmt::Write>(&self, f: &mut fmt::Formatter<W>) -> fmt::Result {
+        let SenseRow(line, first, second, _) = *self;
+        let (yes, no) = (Members(first as u64), Members(second as u64));
+        write!(f, "sense {line} yes{yes} or no{no}")
+    }
+}
+
+impl Row for SenseRow {
+    type Answer = Said;
+
+    fn expected(&self) -> Said {
+        Said(self.3)
+    }
+}
 
 // A set, and the set that follows from it.
 #[derive(Clone, Copy)]
 pub struct FollowRow(pub u64, pub u64);
 
-// The answer to a call that is done or refused.
-fn said(res: Result<(), Refusal>) -> Answer {
-    match res {
-        Ok(()) => Answer::Done,
-        Err(refusal) => Answer::No(refusal.number()),
+impl FollowRow {
+    pub fn ask<F: Facts>(&self, facts: &F) -> Members {
+        Members(facts.follow(self.0))
     }
 }
 
-pub fn tell_steps<F>(
-    rt: &HostRuntime,
-    tally: &mut Tally,
-    facts: &mut Steps<F>,
-    rows: &[StepRow],
-) -> io::Result<()> {
-    for row in rows {
-        let StepRow(needs, gives, answer) = *row;
-        let lines = Members(needs);
-        print!(rt; "step{lines} gives {gives}")?;
-        tally.count(rt, said(facts.step(needs, gives)), answer)?;
+impl fmt::Display for FollowRow {
+    fn fmt<W: fmt::Write>(&self, f: &mut fmt::Formatter<W>) -> fmt::Result {
+        let from = Members(self.0);
+        write!(f, "from{from}")
     }
-    Ok(())
 }
 
-pub fn tell_clauses(
-    rt: &HostRuntime,
-    tally: &mut Tally,
-    facts: &mut Clauses,
-    rows: &[ClauseRow],
-) -> io::Result<()> {
-    for row in rows {
-        let ClauseRow(first, second, answer) = *row;
-        let yes = Members(first as u64);
-        let no = Members(second as u64);
-        print!(rt; "clause yes{yes} or no{no}")?;
-        tally.count(rt, said(facts.clause(first, second)), answer)?;
+impl Row for FollowRow {
+    type Answer = Members;
+
+    fn expected(&self) -> Members {
+        Members(self.1)
     }
-    Ok(())
 }
 
-pub fn tell_senses(
-    rt: &HostRuntime,
-    tally: &mut Tally,
-    facts: &mut Clauses,
-    rows: &[SenseRow],
-) -> io::Result<()> {
-    for row in rows {
-        let SenseRow(line, first, second, answer) = *row;
-        let yes = Members(first as u64);
-        let no = Members(second as u64);
-        print!(rt; "sense {line} yes{yes} or no{no}")?;
-        tally.count(rt, said(facts.sense(line, first, second)), answer)?;
+// The lines that the facts name.
+#[derive(Clone, Copy)]
+pub struct NamesRow(pub u64);
+
+impl NamesRow {
+    pub fn ask<F: Facts>(&self, facts: &F) -> Members {
+        Members(facts.names())
     }
-    Ok(())
 }
 
-pub fn ask_all<F: Facts>(
-    rt: &HostRuntime,
-    tally: &mut Tally,
-    facts: &F,
-    rows: &[FollowRow],
-) -> io::Result<()> {
-    for row in rows {
-        let FollowRow(set, follows) = *row;
-        let from = Members(set);
-        print!(rt; "from{from}")?;
-        tally.count(rt, Answer::Set(facts.follow(set)), Answer::Set(follows))?;
+impl fmt::Display for NamesRow {
+    fn fmt<W: fmt::Write>(&self, f: &mut fmt::Formatter<W>) -> fmt::Result {
+        write!(f, "names")
     }
-    Ok(())
 }
 
-pub fn ask_names<F: Facts>(
-    rt: &HostRuntime,
-    tally: &mut Tally,
-    facts: &F,
-    expected: u64,
-) -> io::Result<()> {
-    print!(rt; "names")?;
-    tally.count(rt, Answer::Set(facts.names()), Answer::Set(expected))
+impl Row for NamesRow {
+    type Answer = Members;
+
+    fn expected(&self) -> Members {
+        Members(self.0)
+    }
 }

@@ -7,38 +7,23 @@ ghost use Rattle.clauses.specs.Words.{TableOf};
 ghost use Rattle.sets.specs.Sets.{IsLines};
 ghost use Rattle.clauses.specs.Entailing.{clausal_lawful, sense_on_lines};
 
-use crate::clauses::rows::WORDS;
-use crate::clauses::{Clauses, rows};
+use crate::clauses::Clauses;
+use crate::clauses::rows::Rows;
 use facts::Facts;
 
-// The rows left: those that meet all clauses told, and the sense of every line of the set too.
-fn meet_senses(facts: &Clauses, set: u64) -> [u64; WORDS]
-    ensures { TableOf (Left atom_count (clauses_of facts.now) (sense_of facts.now) set) result }
-{
-    let mut table = facts.met;
-    for line in 0u32..64 {
-        if sets::has(set, line) {
-            let next = rows::meet_sense(table, facts.sense_of(line));
-            table = next;
+impl Clauses {
+    // The rows left: those that meet all clauses told, and the sense of every line of the set too.
+    fn left(&self, set: u64) -> Rows
+        ensures { TableOf (Left atom_count (clauses_of self.now) (sense_of self.now) set) result.words }
+    {
+        let mut rows = self.met;
+        for line in 0u32..64 {
+            if sets::has(set, line) {
+                rows.meet_sense(self.sense_of(line));
+            }
         }
+        rows
     }
-    table
-}
-
-// The set with every line whose sense all rows left meet.
-fn with_entailed(facts: &Clauses, set: u64, left: [u64; WORDS]) -> u64
-    requires { TableOf (Left atom_count (clauses_of facts.now) (sense_of facts.now) set) left }
-    ensures computed { result ≡ (clausal atom_count (clauses_of facts.now) (sense_of facts.now)).follow set }
-    ensures follows { Follows atom_count (clauses_of facts.now) (sense_of facts.now) set result }
-    ensures every { (s : ℕ) → IsLines s → Follows atom_count (clauses_of facts.now) (sense_of facts.now) s ((clausal atom_count (clauses_of facts.now) (sense_of facts.now)).follow s) }
-{
-    let mut all = set;
-    for line in 0u32..64 {
-        if rows::all_meet_sense(left, facts.sense_of(line)) {
-            all = sets::with(all, line);
-        }
-    }
-    all
 }
 
 impl Facts for Clauses {
@@ -51,20 +36,14 @@ impl Facts for Clauses {
         ensures follows { Follows atom_count (clauses_of self.now) (sense_of self.now) set result }
         ensures every { (s : ℕ) → IsLines s → Follows atom_count (clauses_of self.now) (sense_of self.now) s ((clausal atom_count (clauses_of self.now) (sense_of self.now)).follow s) }
     {
-        let left = meet_senses(self, set);
-        with_entailed(self, set, left)
+        let left = self.left(set);
+        set | sets::lines_where(|line| left.all_meet_sense(self.sense_of(line)))
     }
 
     fn names(&self) -> u64
         ensures computed { result ≡ (clausal atom_count (clauses_of self.now) (sense_of self.now)).names }
         ensures sensed { SensedLines (sense_of self.now) result }
     {
-        let mut sensed = 0;
-        for line in 0u32..64 {
-            if self.has_sense(line) {
-                sensed = sets::with(sensed, line);
-            }
-        }
-        sensed
+        sets::lines_where(|line| self.has_sense(line))
     }
 }

@@ -1,6 +1,6 @@
 // Sets of rows, in words of sixty-four.
-ghost use Rattle.std.specs.Prelude.{ℕ, ◌<◌, Decides};
-ghost use Rattle.clauses.specs.Rows.{AllMeet, IsClause, IsSense, Meets, MeetsBy, MeetsSense, atom_count};
+ghost use Rattle.std.specs.Prelude.{◌≡◌, ℕ, ◌/◌, ◌%◌, ◌<◌, length, Decides};
+ghost use Rattle.clauses.specs.Rows.{AllMeet, Meets, MeetsSense, atom_count};
 ghost use Rattle.clauses.specs.Words.{InTable, RowOf, TableOf, WordOf};
 ghost use Rattle.sets.specs.Sets.{Has};
 
@@ -10,7 +10,7 @@ use crate::clause::{ATOMS, Clause};
 const IN_WORD: u32 = 6;
 
 // How many words all rows take.
-pub const WORDS: usize = 1 << (ATOMS - IN_WORD);
+const WORDS: usize = 1 << (ATOMS - IN_WORD);
 
 // The rows of a word that say yes to each of its atoms.
 const PATTERNS: [u64; 6] = [
@@ -36,87 +36,81 @@ fn yes(atom: u32, word: usize) -> u64
     0
 }
 
-// The rows of a word that meet the clause by the atom.
-fn met_by(clause: Clause, atom: u32, word: usize) -> u64
-    requires { atom < atom_count }
-    ensures { WordOf (λ row. MeetsBy clause row atom) word result }
-{
-    let yes = yes(atom, word);
-    let by_first = if sets::has(clause.first as u64, atom) {
-        yes
-    } else {
-        0
-    };
-    let by_second = if sets::has(clause.second as u64, atom) {
-        !yes
-    } else {
-        0
-    };
-    by_first | by_second
-}
-
 // The rows of a word that meet the clause.
 fn met(clause: Clause, word: usize) -> u64
-    requires { IsClause atom_count clause }
     ensures { WordOf (Meets clause) word result }
 {
+    let first = clause.first() as u64;
+    let second = clause.second() as u64;
     let mut rows = 0;
     for atom in 0..ATOMS {
-        rows |= met_by(clause, atom, word);
+        let yes = yes(atom, word);
+        if sets::has(first, atom) {
+            rows |= yes;
+        }
+        if sets::has(second, atom) {
+            rows |= !yes;
+        }
     }
     rows
 }
 
-// The rows of the table that meet the clause.
-pub fn meet(table: [u64; WORDS], clause: Clause) -> [u64; WORDS]
-    requires { IsClause atom_count clause }
-    ensures { TableOf (λ row. InTable table row × Meets clause row) result }
+// Do all these rows of a word meet the clause?
+fn all_met(clause: Clause, word: usize, rows: u64) -> bool
+    ensures { Decides result ((row : ℕ) → row / 64 ≡ word → Has rows (row % 64) → Meets clause row) }
 {
-    let mut left = table;
-    for word in 0..WORDS {
-        left[word] = table[word] & met(clause, word);
-    }
-    left
+    sets::within(rows, met(clause, word))
 }
 
-// The rows of the table that meet the sense, if there is one.
-pub fn meet_sense(table: [u64; WORDS], sense: Option<Clause>) -> [u64; WORDS]
-    requires { IsSense atom_count sense }
-    ensures { TableOf (λ row. InTable table row × MeetsSense sense row) result }
-{
-    match sense {
-        Some(clause) => meet(table, clause),
-        None => table,
-    }
+// A set of rows.
+#[derive(Clone, Copy)]
+pub struct Rows {
+    words: [u64; WORDS],
+    ghost whole: { length words ≡ 16 },
 }
 
-// Every row.
-pub fn every_row() -> [u64; WORDS]
-    ensures { TableOf (λ _. Unit {0}) result }
-{
-    [u64::MAX; WORDS]
-}
-
-// Does every row of the table meet the clause?
-fn all_meet(table: [u64; WORDS], clause: Clause) -> bool
-    requires { IsClause atom_count clause }
-    ensures { Decides result ((row : ℕ) → RowOf table row → Meets clause row) }
-{
-    for word in 0..WORDS {
-        if !sets::within(table[word], met(clause, word)) {
-            return false;
+impl Rows {
+    // Every row.
+    pub fn every() -> Rows
+        ensures { TableOf (λ _. Unit {0}) result.words }
+    {
+        Rows {
+            words: [u64::MAX; WORDS],
         }
     }
-    true
-}
 
-// Is there a sense, and does every row of the table meet it?
-pub fn all_meet_sense(table: [u64; WORDS], sense: Option<Clause>) -> bool
-    requires { IsSense atom_count sense }
-    ensures { Decides result (AllMeet (RowOf table) sense) }
-{
-    match sense {
-        Some(clause) => all_meet(table, clause),
-        None => false,
+    // Leaves the rows that meet the clause.
+    pub fn meet(&mut self, clause: Clause)
+        ensures { TableOf (λ row. InTable self.old.words row × Meets clause row) self.new.words }
+    {
+        for (word, rows) in self.words.iter_mut().enumerate() {
+            *rows &= met(clause, word);
+        }
+    }
+
+    // Leaves the rows that meet the sense, if there is one.
+    pub fn meet_sense(&mut self, sense: Option<Clause>)
+        ensures { TableOf (λ row. InTable self.old.words row × MeetsSense sense row) self.new.words }
+    {
+        if let Some(clause) = sense {
+            self.meet(clause);
+        }
+    }
+
+    // Does every row meet the clause?
+    fn all_meet(&self, clause: Clause) -> bool
+        ensures { Decides result ((row : ℕ) → RowOf self.now.words row → Meets clause row) }
+    {
+        self.words
+            .iter()
+            .enumerate()
+            .all(|(word, rows)| all_met(clause, word, *rows))
+    }
+
+    // Is there a sense, and does every row meet it?
+    pub fn all_meet_sense(&self, sense: Option<Clause>) -> bool
+        ensures { Decides result (AllMeet (RowOf self.now.words) sense) }
+    {
+        sense.is_some_and(|clause| self.all_meet(clause))
     }
 }

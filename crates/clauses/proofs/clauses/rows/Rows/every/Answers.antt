@@ -3,7 +3,7 @@ use Rattle.std.proofs.lemmas.Nat.{mod_below}
 use Rattle.std.proofs.lemmas.List.{get_or-replicate}
 use Rattle.sets.specs.Sets.{Has}
 use Rattle.clauses.proofs.Bits.{full_has}
-use Rattle.clauses.proofs.clauses.rows.every_row.Goals as goal
+use Rattle.clauses.proofs.clauses.rows.Rows.every.Goals as goal
 
 pub returns : goal.returns
 returns c row l =

@@ -1,8 +1,8 @@
 use Rattle.clauses.specs.Told.{clauses_of, sense_of}
 use Rattle.clauses.specs.Words.{TableOf}
 use Rattle.clauses.proofs.Masks.{LeftBelow}
-use Rattle.clauses.proofs.clauses.asked.meet_senses.Given as goal
+use Rattle.clauses.proofs.clauses.Clauses.left.Given as goal
 
 -- the rows that meet the clauses and the senses of the lines so far
 abbrev pub invariant-loop-line : goal.invariant-loop-line
-invariant-loop-line l = TableOf (LeftBelow (clauses_of l.facts) (sense_of l.facts) l.set l.line) l.table
+invariant-loop-line l = TableOf (LeftBelow (clauses_of l.self) (sense_of l.self) l.set l.line) l.rows.words
