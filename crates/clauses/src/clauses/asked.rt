@@ -10,6 +10,7 @@ ghost use Rattle.clauses.specs.Entailing.{clausal_lawful, sense_on_lines};
 use crate::clauses::Clauses;
 use crate::clauses::rows::Rows;
 use facts::Facts;
+use sets::walk::Lines;
 
 impl Clauses {
     // The rows left: those that meet all clauses told, and the sense of every line of the set too.
@@ -17,10 +18,8 @@ impl Clauses {
         ensures { TableOf (Left atom_count (clauses_of self.now) (sense_of self.now) set) result.words }
     {
         let mut rows = self.met;
-        for line in 0u32..64 {
-            if sets::has(set, line) {
-                rows.meet_sense(self.sense_of(line));
-            }
+        for line in Lines::of(set) {
+            rows.meet_sense(self.sense_of(line));
         }
         rows
     }
