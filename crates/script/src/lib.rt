@@ -5,6 +5,7 @@ ghost use Rattle.std.specs.Prelude.{◌≤◌, length, MatchOption};
 ghost use Rattle.script.specs.Lines.{Bounded};
 
 mod print;
+mod printer;
 pub mod request;
 pub mod session;
 
