@@ -9,10 +9,6 @@ use Rattle.std.proofs.lemmas.Bool.{cases_lt}
 use Rattle.std.proofs.lemmas.Bool.Decides.{nat_tests}
 use Rattle.script.specs.Reading.{Lacks, ReadsNumber, Short, value_after}
 
--- a text is what stands before a place, the byte there and the rest
-pub parts_at : (bytes : List ℕ) (i : ℕ) → i < length bytes → bytes ≡ take i bytes ++ (get_or bytes i 0 ∷ drop (i + 1) bytes)
-parts_at bytes i h = sym (take-append-drop i bytes) ∙ ap (λ x. take i bytes ++ x) (drop_more bytes i 0 h)
-
 pub numerals : IsNumeralModel (λ ds. all_ascii_digits ds ≡ true) (value_after 0)
 numerals = numerals_by_fold _ (search rules) value_after (search rules)
 

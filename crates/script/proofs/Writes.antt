@@ -26,9 +26,6 @@ kept_then {b} {m} {a} {at} {r} {s} p q = record {
         let e : r + (s - r) ≡ s = omega arith in
         ap (λ n. drop n m) (sym e) ∙ (sym (drop-drop (s - r) r m) ∙ (ap (drop (s - r)) p.rest ∙ (drop-drop (s - r) r b ∙ ap (λ n. drop n b) e)))
 
-pub wrote_as : {b a t u : List ℕ} {at r : ℕ} → t ≡ u → Wrote b at t a r → Wrote b at u a r
-wrote_as {b} {a} {t} {u} {at} {r} e p = let P : List ℕ → Type 0 = λ x. Wrote b at x a r in subst P e p
-
 pub wrote_none : (b : List ℕ) (at : ℕ) → Wrote b at [] b at
 wrote_none b at = record {
   kept = kept_none b at;
