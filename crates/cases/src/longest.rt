@@ -1,5 +1,6 @@
 // Scripts too long to be written out.
-use crate::tally::Tally;
+use crate::compare::compare;
+use shown::Tally;
 use std::alloc::{AllocError, Global};
 use std::io;
 
@@ -15,28 +16,40 @@ fn most_steps(rt: &HostRuntime, tally: &mut Tally) -> io::Result<()> {
     let script = repeated(rt.alloc(), b"> . 0\n", 32, rest)?;
     let noes = b"no 1\nno 19\nnumber 1\nmenus 1 next 1 of 1\ntea\nbad 217\n";
     let answers = repeated(rt.alloc(), b"ok\n", 32, noes)?;
-    tally.compare(rt, "33 steps", &script, &answers)
+    compare(rt, tally, "33 steps", &script, &answers)
 }
 
 // 8,192 bytes are read.
 fn longest(rt: &HostRuntime, tally: &mut Tally) -> io::Result<()> {
     let script = repeated(rt.alloc(), b"- 0\n", 2048, b"")?;
     let answers = repeated(rt.alloc(), b"no 5\n", 2048, b"")?;
-    tally.compare(rt, "8,192 bytes", &script, &answers)?;
+    compare(rt, tally, "8,192 bytes", &script, &answers)?;
     let script = repeated(rt.alloc(), b"- 0\n", 2047, b"? 10")?;
     let answers = repeated(rt.alloc(), b"no 5\n", 2047, b"no 10\n")?;
-    tally.compare(rt, "8,192 bytes without the last end", &script, &answers)?;
+    compare(
+        rt,
+        tally,
+        "8,192 bytes without the last end",
+        &script,
+        &answers,
+    )?;
     let script = repeated(rt.alloc(), b"- 0\n", 2047, b"- 00")?;
     let answers = repeated(rt.alloc(), b"no 5\n", 2047, b"bad 8188\n")?;
-    tally.compare(rt, "8,192 bytes with a bad line last", &script, &answers)
+    compare(
+        rt,
+        tally,
+        "8,192 bytes with a bad line last",
+        &script,
+        &answers,
+    )
 }
 
 // One byte more is not, even if it is only the last line's end.
 fn too_long(rt: &HostRuntime, tally: &mut Tally) -> io::Result<()> {
     let script = repeated(rt.alloc(), b"- 0\n", 2047, b"? 10\n")?;
-    tally.compare(rt, "8,193 bytes", &script, b"bad 8192\n")?;
+    compare(rt, tally, "8,193 bytes", &script, b"bad 8192\n")?;
     let script = repeated(rt.alloc(), b"- 0\n", 3000, b"")?;
-    tally.compare(rt, "12,000 bytes", &script, b"bad 8192\n")
+    compare(rt, tally, "12,000 bytes", &script, b"bad 8192\n")
 }
 
 // A line many times, and what comes after it.

@@ -1,8 +1,18 @@
 // Menus, worked out by hand from the rules and the steps.
 use crate::Case;
+use crate::compare::run_all;
+use shown::Tally;
+use std::io;
+
+pub fn run(rt: &HostRuntime, tally: &mut Tally) -> io::Result<()> {
+    for cases in [RULES, FACTS, PAGES] {
+        run_all(rt, tally, cases)?;
+    }
+    Ok(())
+}
 
 // Rules alone.
-pub const RULES: &[Case] = &[
+const RULES: &[Case] = &[
     Case("no rules", b"? 0\n", b"menus 1 next 1 of 1\n\n"),
     Case(
         "no rule gives a line that is written",
@@ -82,7 +92,7 @@ pub const RULES: &[Case] = &[
 ];
 
 // Rules over steps.
-pub const FACTS: &[Case] = &[
+const FACTS: &[Case] = &[
     Case(
         "a step that needs nothing",
         b"> . 0\n+ 0 tea\n? 0\n",
@@ -123,7 +133,7 @@ pub const FACTS: &[Case] = &[
 // Five pairs, one of each: a or b, c or d, e or f, g or h, i or j. A pair takes two bits of a
 // guess, 1 for its first line and 2 for its second. So 16 menus have i, the last of them at
 // 256 + 2 * 85 = 426, and 16 have j, from 512 + 85 = 597 to 512 + 2 * 85 = 682.
-pub const PAGES: &[Case] = &[Case(
+const PAGES: &[Case] = &[Case(
     "five pairs",
     b"+ 0 a\n+ 1 b\n+ 2 c\n+ 3 d\n+ 4 e\n+ 5 f\n+ 6 g\n+ 7 h\n+ 8 i\n+ 9 j\n\
       : 0 . 1 0\n: 1 . 0 1\n: 2 . 3 2\n: 3 . 2 3\n: 4 . 5 4\n: 5 . 4 5\n\

@@ -1,8 +1,18 @@
 // Each refusal that a script can meet, and which of two comes first.
 use crate::Case;
+use crate::compare::run_all;
+use shown::Tally;
+use std::io;
+
+pub fn run(rt: &HostRuntime, tally: &mut Tally) -> io::Result<()> {
+    for cases in [RANGES, WORDS, NAMED, READINGS, ORDERS, UNLESS] {
+        run_all(rt, tally, cases)?;
+    }
+    Ok(())
+}
 
 // The calls that a line or a place is out of range for, or filled already.
-pub const RANGES: &[Case] = &[
+const RANGES: &[Case] = &[
     Case("write above line 63", b"+ 64 tea\n", b"no 1\n"),
     Case("strike above line 63", b"- 64\n", b"no 1\n"),
     Case(
@@ -35,7 +45,7 @@ pub const RANGES: &[Case] = &[
 ];
 
 // Words: 1 to 24 bytes from 33 to 126.
-pub const WORDS: &[Case] = &[
+const WORDS: &[Case] = &[
     Case("25 bytes", b"+ 0 abcdefghijklmnopqrstuvwxy\n", b"no 3\n"),
     Case("24 bytes", b"+ 0 abcdefghijklmnopqrstuvwx\n", b"number 1\n"),
     Case("one byte", b"+ 0 a\n", b"number 1\n"),
@@ -51,7 +61,7 @@ pub const WORDS: &[Case] = &[
 ];
 
 // Empty lines and places, and lines that a rule or a step names.
-pub const NAMED: &[Case] = &[
+const NAMED: &[Case] = &[
     Case("strike of an empty line", b"- 0\n- 63\n", b"no 5\nno 5\n"),
     Case("unrule of an empty place", b"/ 0\n/ 39\n", b"no 5\nno 5\n"),
     Case(
@@ -112,7 +122,7 @@ pub const NAMED: &[Case] = &[
 ];
 
 // A reading that is refused.
-pub const READINGS: &[Case] = &[
+const READINGS: &[Case] = &[
     Case("a step names empty lines", b"> 0 1\n? 0\n", b"ok\nno 9\n"),
     Case(
         "a step gives an empty line",
@@ -143,7 +153,7 @@ pub const READINGS: &[Case] = &[
 ];
 
 // Of two grounds, the one with the lower number is answered.
-pub const ORDERS: &[Case] = &[
+const ORDERS: &[Case] = &[
     Case(
         "write, 1 before 3",
         b"+ 64 abcdefghijklmnopqrstuvwxy\n",
@@ -182,7 +192,7 @@ pub const ORDERS: &[Case] = &[
 ];
 
 // At most 12 lines stand in unless-sets. In each script lines 0 to 13 have the words a to n.
-pub const UNLESS: &[Case] = &[
+const UNLESS: &[Case] = &[
     Case(
         "13 lines in one unless-set",
         b"+ 0 a\n+ 1 b\n+ 2 c\n+ 3 d\n+ 4 e\n+ 5 f\n+ 6 g\n\

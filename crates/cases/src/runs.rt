@@ -1,8 +1,18 @@
 // How lines follow one another.
 use crate::Case;
+use crate::compare::run_all;
+use shown::Tally;
+use std::io;
+
+pub fn run(rt: &HostRuntime, tally: &mut Tally) -> io::Result<()> {
+    for cases in [ENDS, PLACES, STEPS, NUMBERED] {
+        run_all(rt, tally, cases)?;
+    }
+    Ok(())
+}
 
 // Where a script ends.
-pub const ENDS: &[Case] = &[
+const ENDS: &[Case] = &[
     Case("no input", b"", b""),
     Case(
         "a last line without its end",
@@ -20,7 +30,7 @@ pub const ENDS: &[Case] = &[
 ];
 
 // Where a bad line begins; it alters nothing.
-pub const PLACES: &[Case] = &[
+const PLACES: &[Case] = &[
     Case("three empty lines", b"\n\n\n", b"bad 0\nbad 1\nbad 2\n"),
     Case(
         "a bad line after good ones",
@@ -40,7 +50,7 @@ pub const PLACES: &[Case] = &[
 ];
 
 // Steps come before all other lines but bad ones.
-pub const STEPS: &[Case] = &[
+const STEPS: &[Case] = &[
     Case(
         "a step after an accepted line",
         b"+ 0 tea\n> . 0\n",
@@ -84,7 +94,7 @@ pub const STEPS: &[Case] = &[
 ];
 
 // The numbers of statements.
-pub const NUMBERED: &[Case] = &[
+const NUMBERED: &[Case] = &[
     Case(
         "no number is given again after a strike",
         b"+ 0 soup\n- 0\n+ 0 trifle\n",

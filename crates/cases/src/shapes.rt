@@ -1,8 +1,18 @@
 // Lines that are damaged, and lines of the right shape that look so.
 use crate::Case;
+use crate::compare::run_all;
+use shown::Tally;
+use std::io;
+
+pub fn run(rt: &HostRuntime, tally: &mut Tally) -> io::Result<()> {
+    for cases in [FIELDS, NUMBERS, SETS, BYTES] {
+        run_all(rt, tally, cases)?;
+    }
+    Ok(())
+}
 
 // Spaces, first characters and fields.
-pub const FIELDS: &[Case] = &[
+const FIELDS: &[Case] = &[
     Case("an empty line", b"\n", b"bad 0\n"),
     Case("an empty line before another", b"\n- 0\n", b"bad 0\nno 5\n"),
     Case("only a space", b" \n", b"bad 0\n"),
@@ -43,7 +53,7 @@ pub const FIELDS: &[Case] = &[
 ];
 
 // Numbers.
-pub const NUMBERS: &[Case] = &[
+const NUMBERS: &[Case] = &[
     Case("a needless zero", b"- 00\n- 01\n", b"bad 0\nbad 5\n"),
     Case(
         "a needless zero before five digits",
@@ -75,7 +85,7 @@ pub const NUMBERS: &[Case] = &[
 ];
 
 // Sets of lines.
-pub const SETS: &[Case] = &[
+const SETS: &[Case] = &[
     Case("an empty set field", b">  0\n", b"bad 0\n"),
     Case(
         "an empty set field in a rule",
@@ -109,7 +119,7 @@ pub const SETS: &[Case] = &[
 ];
 
 // Bytes that no line should have.
-pub const BYTES: &[Case] = &[
+const BYTES: &[Case] = &[
     Case(
         "a tab for a space",
         b"+\t0 tea\n+ 0\ttea\n",

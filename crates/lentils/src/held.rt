@@ -5,10 +5,11 @@ ghost use Rattle.planner.specs.View.{view, token};
 ghost use Rattle.std.specs.Prelude.{◌≡◌};
 
 use crate::kitchen::{Kitchen, LENTILS, LENTILS_RULE, NO_ROLLS, SOUP_MENU};
-use crate::show::{Bytes, Dishes, Done, Length, No, Yes};
+use crate::show::{Dishes, Length, No, Said, done, yes};
 use facts::Facts;
 use planner::{Hold, Planner};
 use sets::refusal::Refusal;
+use shown::Bytes;
 use std::io;
 
 // A byte too few for a menu of three lines.
@@ -19,19 +20,6 @@ const ROOM: usize = 16;
 
 // What a buffer holds before it is written to.
 const FILLER: u8 = 0xEE;
-
-// A saved menu: the first bytes of a buffer.
-#[derive(Clone, Copy)]
-pub struct Record {
-    buffer: [u8; ROOM],
-    length: usize,
-}
-
-impl Record {
-    pub fn as_slice(&self) -> &[u8] {
-        &self.buffer[0..self.length.min(ROOM)]
-    }
-}
 
 // What was answered while a menu was held. Nothing is printed before the hold is given back.
 #[derive(Drop)]
@@ -48,14 +36,8 @@ struct Kept {
 
 impl Kept {
     // The record, if the menu was saved.
-    fn record(&self) -> Option<Record> {
-        match self.saved {
-            Ok(length) => Some(Record {
-                buffer: self.buffer,
-                length,
-            }),
-            Err(_) => None,
-        }
+    fn record(&self) -> Option<&[u8]> {
+        self.buffer.get(..self.saved.ok()?)
     }
 }
 
@@ -94,26 +76,24 @@ fn give_back<F: Facts>(planner: &mut Planner<F>, hold: Hold)
     requires { OutHere (view planner.old) (token hold) }
     ensures { (view planner.new).book ≡ without_hold (view planner.old).book (token hold).number }
 {
-    match planner.release(hold) {
-        Ok(()) => (),
-        Err(_) => unreachable(),
-    }
+    planner.release(hold).unwrap()
 }
 
 // Tries to hold what is no menu, then holds the soup menu, and answers its record.
-pub fn serve(rt: &HostRuntime, planner: &mut Kitchen) -> io::Result<Option<Record>> {
+pub fn serve(rt: &HostRuntime, planner: &mut Kitchen) -> io::Result<Option<Vec<u8>>> {
     println!(rt; "= A menu is held")?;
     try_hold(rt, planner, NO_ROLLS)?;
     try_hold(rt, planner, SOUP_MENU)
 }
 
-fn try_hold(rt: &HostRuntime, planner: &mut Kitchen, set: u64) -> io::Result<Option<Record>> {
+fn try_hold(rt: &HostRuntime, planner: &mut Kitchen, set: u64) -> io::Result<Option<Vec<u8>>> {
     print!(rt; "hold{}: ", Dishes { planner, set })?;
     match keep(planner, set, LENTILS, LENTILS_RULE) {
         Ok(kept) => {
             println!(rt; "done")?;
             tell(rt, Dishes { planner, set }, &kept)?;
-            Ok(kept.record())
+            let record = kept.record().map(|bytes| bytes.to_vec(rt.alloc()));
+            Ok(record.transpose()?)
         }
         Err(refusal) => {
             println!(rt; "{}", No(refusal))?;
@@ -124,13 +104,19 @@ fn try_hold(rt: &HostRuntime, planner: &mut Kitchen, set: u64) -> io::Result<Opt
 
 // The answers, in the order of the calls.
 fn tell(rt: &HostRuntime, menu: Dishes<'_>, kept: &Kept) -> io::Result<()> {
-    println!(rt; "save into {SHORT} bytes: {}", Length(kept.short_saved))?;
+    println!(rt;
+        "save into {SHORT} bytes: {}",
+        Said(kept.short_saved.map(|length| Length(length)))
+    )?;
     println!(rt; "  the buffer:{}", Bytes(&kept.short))?;
-    println!(rt; "save into {ROOM} bytes: {}", Length(kept.saved))?;
+    println!(rt;
+        "save into {ROOM} bytes: {}",
+        Said(kept.saved.map(|length| Length(length)))
+    )?;
     println!(rt; "  the buffer:{}", Bytes(&kept.buffer))?;
-    println!(rt; "strike line {LENTILS}: {}", Done(kept.first_strike))?;
-    println!(rt; "unrule {LENTILS_RULE}: {}", Done(kept.unruled))?;
-    println!(rt; "stands{menu}: {}", Yes(kept.stands))?;
-    println!(rt; "strike line {LENTILS}: {}", Done(kept.second_strike))?;
+    println!(rt; "strike line {LENTILS}: {}", done(kept.first_strike))?;
+    println!(rt; "unrule {LENTILS_RULE}: {}", done(kept.unruled))?;
+    println!(rt; "stands{menu}: {}", yes(kept.stands))?;
+    println!(rt; "strike line {LENTILS}: {}", done(kept.second_strike))?;
     println!(rt; "release: done")
 }

@@ -1,5 +1,5 @@
 // The kitchen: its lines, its menus, its rules and its facts.
-use crate::show::Done;
+use crate::show::done;
 use facts::Bare;
 use facts::steps::Steps;
 use planner::Planner;
@@ -35,7 +35,7 @@ pub const TRIFLE_RULE: u32 = 2;
 pub fn soup_brings_rolls(rt: &HostRuntime) -> io::Result<Steps<Bare>> {
     println!(rt; "= The facts")?;
     let mut facts = Steps::new(Bare);
-    let told = Done(facts.step(1 << SOUP, ROLLS));
+    let told = done(facts.step(1 << SOUP, ROLLS));
     println!(rt; "step, soup brings rolls: {told}")?;
     Ok(facts)
 }

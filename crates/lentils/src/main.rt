@@ -22,7 +22,7 @@ fn main(rt: HostRuntime) -> io::Result<()> {
     match held::serve(&rt, &mut planner)? {
         Some(record) => {
             sack::is_empty(&rt, &mut planner)?;
-            old::look_again(&rt, &planner, record.as_slice())?;
+            old::look_again(&rt, &planner, &record)?;
         }
         None => println!(rt; "no record")?,
     }

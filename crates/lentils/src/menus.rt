@@ -1,6 +1,6 @@
 // The menus, page by page, and which sets are menus.
 use crate::kitchen::{Kitchen, NO_ROLLS, TRIFLE_MENU};
-use crate::show::{Dishes, No, Yes};
+use crate::show::{Dishes, No, yes};
 use planner::Listing;
 use std::io;
 
@@ -42,8 +42,8 @@ pub fn list(rt: &HostRuntime, planner: &Kitchen, from: u32) -> io::Result<Option
 // Asks of a menu and of what is none.
 pub fn ask(rt: &HostRuntime, planner: &Kitchen) -> io::Result<()> {
     for set in [TRIFLE_MENU, NO_ROLLS] {
-        let yes = Yes(planner.stands(set));
-        println!(rt; "stands{}: {yes}", Dishes { planner, set })?;
+        let stands = yes(planner.stands(set));
+        println!(rt; "stands{}: {stands}", Dishes { planner, set })?;
     }
     Ok(())
 }

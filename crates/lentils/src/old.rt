@@ -1,7 +1,8 @@
 // The old record is looked at, as it was saved and with a byte spoilt.
 use crate::kitchen::Kitchen;
-use crate::show::{Bytes, Dishes, Lines};
+use crate::show::Dishes;
 use laws::looked::Looked;
+use shown::{Bytes, Lines};
 use std::io;
 
 // A place in a record, and the byte that is put there.

@@ -1,7 +1,7 @@
 // The sack comes in, the rules are written, and at last another dish takes its line.
 use crate::kitchen::{Kitchen, LENTILS, LENTILS_RULE, ROLLS, SOUP, SOUP_RULE, TRIFLE, TRIFLE_RULE};
 use crate::menus::list;
-use crate::show::{Done, No, Number, Place, Text};
+use crate::show::{No, Number, Place, Said, Text, done};
 use book::rows::Wording;
 use std::io;
 
@@ -51,8 +51,8 @@ pub fn comes_in(rt: &HostRuntime, planner: &mut Kitchen) -> io::Result<()> {
 pub fn rules(rt: &HostRuntime, planner: &mut Kitchen) -> io::Result<()> {
     println!(rt; "= The rules")?;
     for card in CARDS {
-        let done = planner.rule(card.place, card.needs, card.unless, card.gives);
-        println!(rt; "rule {}, {}: {}", card.place, card.said, Done(done))?;
+        let answer = done(planner.rule(card.place, card.needs, card.unless, card.gives));
+        println!(rt; "rule {}, {}: {answer}", card.place, card.said)?;
     }
     Ok(())
 }
@@ -61,8 +61,8 @@ pub fn rules(rt: &HostRuntime, planner: &mut Kitchen) -> io::Result<()> {
 pub fn is_empty(rt: &HostRuntime, planner: &mut Kitchen) -> io::Result<()> {
     println!(rt; "= The sack is empty")?;
     strike(rt, planner, LENTILS)?;
-    let done = Done(planner.unrule(SOUP_RULE));
-    println!(rt; "unrule {SOUP_RULE}: {done}")?;
+    let answer = done(planner.unrule(SOUP_RULE));
+    println!(rt; "unrule {SOUP_RULE}: {answer}")?;
     strike(rt, planner, LENTILS)?;
     write(rt, planner, LENTILS, "plum-trifle")?;
     words(rt, planner, LENTILS)?;
@@ -72,13 +72,13 @@ pub fn is_empty(rt: &HostRuntime, planner: &mut Kitchen) -> io::Result<()> {
 }
 
 fn write(rt: &HostRuntime, planner: &mut Kitchen, line: u32, words: &str) -> io::Result<()> {
-    let number = Number(planner.write(line, words.as_bytes()));
+    let number = Said(planner.write(line, words.as_bytes()).map(|n| Number(n)));
     println!(rt; "write {words} on line {line}: {number}")
 }
 
 fn strike(rt: &HostRuntime, planner: &mut Kitchen, line: u32) -> io::Result<()> {
-    let done = Done(planner.strike(line));
-    println!(rt; "strike line {line}: {done}")
+    let answer = done(planner.strike(line));
+    println!(rt; "strike line {line}: {answer}")
 }
 
 fn seek(rt: &HostRuntime, planner: &Kitchen, number: u32) -> io::Result<()> {

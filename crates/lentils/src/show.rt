@@ -37,56 +37,46 @@ fn why(refusal: Refusal) -> &'static str {
     }
 }
 
-// Whether a call was done.
+// What a call answered, or why it was refused.
 #[derive(Clone, Copy)]
-pub struct Done(pub Result<(), Refusal>);
+pub struct Said<T>(pub Result<T, Refusal>);
 
-impl fmt::Display for Done {
+impl<T: fmt::Display> fmt::Display for Said<T> {
     fn fmt<W: fmt::Write>(&self, f: &mut fmt::Formatter<W>) -> fmt::Result {
-        match self.0 {
-            Ok(()) => write!(f, "done"),
-            Err(refusal) => write!(f, "{}", No(refusal)),
+        match &self.0 {
+            Ok(answer) => write!(f, "{answer}"),
+            Err(refusal) => write!(f, "{}", No(*refusal)),
         }
     }
 }
 
+// Whether a call was done.
+pub fn done(answer: Result<(), Refusal>) -> Said<&'static str> {
+    Said(answer.map(|()| "done"))
+}
+
+// Yes or no.
+pub fn yes(answer: Result<bool, Refusal>) -> Said<&'static str> {
+    Said(answer.map(|yes| if yes { "yes" } else { "no" }))
+}
+
 // The number that was given.
 #[derive(Clone, Copy)]
-pub struct Number(pub Result<u32, Refusal>);
+pub struct Number(pub u32);
 
 impl fmt::Display for Number {
     fn fmt<W: fmt::Write>(&self, f: &mut fmt::Formatter<W>) -> fmt::Result {
-        match self.0 {
-            Ok(number) => write!(f, "number {number}"),
-            Err(refusal) => write!(f, "{}", No(refusal)),
-        }
+        write!(f, "number {}", self.0)
     }
 }
 
 // How many bytes were written.
 #[derive(Clone, Copy)]
-pub struct Length(pub Result<usize, Refusal>);
+pub struct Length(pub usize);
 
 impl fmt::Display for Length {
     fn fmt<W: fmt::Write>(&self, f: &mut fmt::Formatter<W>) -> fmt::Result {
-        match self.0 {
-            Ok(length) => write!(f, "{length} bytes"),
-            Err(refusal) => write!(f, "{}", No(refusal)),
-        }
-    }
-}
-
-// Yes or no.
-#[derive(Clone, Copy)]
-pub struct Yes(pub Result<bool, Refusal>);
-
-impl fmt::Display for Yes {
-    fn fmt<W: fmt::Write>(&self, f: &mut fmt::Formatter<W>) -> fmt::Result {
-        match self.0 {
-            Ok(true) => write!(f, "yes"),
-            Ok(false) => write!(f, "no"),
-            Err(refusal) => write!(f, "{}", No(refusal)),
-        }
+        write!(f, "{} bytes", self.0)
     }
 }
 
@@ -100,34 +90,6 @@ impl fmt::Display for Place {
             Some(line) => write!(f, "line {line}"),
             None => write!(f, "none"),
         }
-    }
-}
-
-// The lines of a set, each after a space.
-#[derive(Clone, Copy)]
-pub struct Lines(pub u64);
-
-impl fmt::Display for Lines {
-    fn fmt<W: fmt::Write>(&self, f: &mut fmt::Formatter<W>) -> fmt::Result {
-        for line in 0u32..64 {
-            if sets::has(self.0, line) {
-                write!(f, " {line}")?;
-            }
-        }
-        Ok(())
-    }
-}
-
-// Bytes, each after a space by two hexadecimal digits.
-#[derive(Drop)]
-pub struct Bytes<'a>(pub &'a [u8]);
-
-impl fmt::Display for Bytes<'_> {
-    fn fmt<W: fmt::Write>(&self, f: &mut fmt::Formatter<W>) -> fmt::Result {
-        for byte in self.0 {
-            write!(f, " {byte:02x}")?;
-        }
-        Ok(())
     }
 }
 

@@ -47,17 +47,21 @@ fn pair_clauses() -> Result<Clauses, Refusal> {
     Ok(facts)
 }
 
-// Reads all menus as often as asked, and prints how many there are.
-fn read<F: Facts>(
+// Reads all menus of a book as often as asked, and prints how many there are.
+fn read<F: Facts + Drop>(
     rt: &HostRuntime,
     name: &str,
-    planner: &Planner<F>,
+    book: Result<Planner<F>, Refusal>,
     times: u32,
 ) -> anyhow::Result<()> {
+    let planner = match book {
+        Ok(planner) => planner,
+        Err(refusal) => return Ok(println!(rt; "no {}", refusal.number())?),
+    };
     let mut menus = vec![in rt.alloc(); 0u64; 4096]?;
     let mut count = 0;
     for _ in 0..times {
-        match full_reading(planner, &mut menus) {
+        match full_reading(&planner, &mut menus) {
             Ok(found) => count = found,
             Err(refusal) => println!(rt; "{name}: no {}", refusal.number())?,
         }
@@ -70,20 +74,17 @@ fn read<F: Facts>(
 // What the arguments ask for.
 struct Asked {
     times: u32,
-    only: Option<u32>,
+    only: Option<usize>,
 }
 
 fn arguments(rt: &HostRuntime) -> anyhow::Result<Asked> {
     let mut words = env::args(rt)?.skip(1);
-    let times = match words.next() {
-        Some(word) => word.parse::<u32>()?,
-        None => 1,
-    };
-    let only = match words.next() {
-        Some(word) => Some(word.parse::<u32>()?),
-        None => None,
-    };
-    Ok(Asked { times, only })
+    let times = words.next().map(|word| word.parse::<u32>()).transpose()?;
+    let only = words.next().map(|word| word.parse::<usize>()).transpose()?;
+    Ok(Asked {
+        times: times.unwrap_or(1),
+        only,
+    })
 }
 
 // The book of so many pairs, over bare facts.
@@ -101,27 +102,33 @@ fn clause_book() -> Result<Planner<Clauses>, Refusal> {
     Ok(planner)
 }
 
-// Books 0 to 6 are of so many pairs over bare facts, the last is over clauses.
-fn read_book(rt: &HostRuntime, book: u32, times: u32) -> anyhow::Result<()> {
-    if book < 7 {
-        match bare_book(book) {
-            Ok(planner) => read(rt, "pairs over bare facts", &planner, times)?,
-            Err(refusal) => println!(rt; "no {}", refusal.number())?,
-        }
-    } else {
-        match clause_book() {
-            Ok(planner) => read(rt, "40 rules over clauses", &planner, times)?,
-            Err(refusal) => println!(rt; "no {}", refusal.number())?,
-        }
-    }
-    Ok(())
+// A book that is read.
+enum Book {
+    // so many pairs, over bare facts
+    Pairs(u32),
+    // 40 rules, over clauses
+    Rules,
 }
+
+const BOOKS: &[Book] = &[
+    Book::Pairs(0),
+    Book::Pairs(1),
+    Book::Pairs(2),
+    Book::Pairs(3),
+    Book::Pairs(4),
+    Book::Pairs(5),
+    Book::Pairs(6),
+    Book::Rules,
+];
 
 fn main(rt: HostRuntime) -> anyhow::Result<()> {
     let Asked { times, only } = arguments(&rt)?;
-    for book in 0u32..8 {
-        if only.is_none() || only == Some(book) {
-            read_book(&rt, book, times)?;
+    for (n, book) in BOOKS.iter().enumerate() {
+        if only.is_none_or(|only| only == n) {
+            match book {
+                Book::Pairs(pairs) => read(&rt, "pairs over bare facts", bare_book(*pairs), times)?,
+                Book::Rules => read(&rt, "40 rules over clauses", clause_book(), times)?,
+            }
         }
     }
     Ok(())

@@ -21,19 +21,6 @@ impl fmt::Display for Listed<'_> {
     }
 }
 
-// Bytes, each after a space by two hexadecimal digits.
-#[derive(Drop)]
-pub struct Hex<'a>(pub &'a [u8]);
-
-impl fmt::Display for Hex<'_> {
-    fn fmt<W: fmt::Write>(&self, f: &mut fmt::Formatter<W>) -> fmt::Result {
-        for byte in self.0 {
-            write!(f, " {byte:02x}")?;
-        }
-        Ok(())
-    }
-}
-
 // What reading answered: the entries, or the fault with its number and its place.
 #[derive(Drop)]
 pub struct Answer(pub Result<Entries, Fault>);

@@ -1,9 +1,10 @@
 // Entries that are written and read back, and bytes that are read and written again.
 use crate::FILLER;
-use crate::show::{Answer, Hex};
+use crate::show::Answer;
 use record::entries::Entry;
 use record::read::read;
 use record::write::write;
+use shown::Bytes;
 use std::io;
 
 // The first number that has not been given out.
@@ -55,7 +56,7 @@ pub fn write_and_read(rt: &HostRuntime, entries: &[Entry]) -> io::Result<()> {
     let mut buffer = [FILLER; 200];
     match write(entries, &mut buffer) {
         Some(total) => {
-            let answer = Answer(read(&buffer[0..total], NEXT));
+            let answer = Answer(read(&buffer[..total], NEXT));
             println!(rt; "{total} bytes: {answer}")
         }
         None => println!(rt; "not written"),
@@ -69,7 +70,7 @@ const RECORDS: &[&[u8]] = &[
 ];
 
 fn read_and_write(rt: &HostRuntime, bytes: &[u8]) -> io::Result<()> {
-    let before = Hex(bytes);
+    let before = Bytes(bytes);
     print!(rt; "read{before},")?;
     let Ok(entries) = read(bytes, NEXT) else {
         return println!(rt; " with a fault");
@@ -77,7 +78,7 @@ fn read_and_write(rt: &HostRuntime, bytes: &[u8]) -> io::Result<()> {
     let mut buffer = [FILLER; 16];
     match write(entries.as_slice(), &mut buffer) {
         Some(_) => {
-            let after = Hex(&buffer);
+            let after = Bytes(&buffer);
             println!(rt; " buffer{after}")
         }
         None => println!(rt; " not written"),

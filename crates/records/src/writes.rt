@@ -1,8 +1,8 @@
 // Entries that are written into a buffer.
 use crate::FILLER;
-use crate::show::Hex;
 use record::entries::Entry;
 use record::write::write;
+use shown::Bytes;
 use std::io;
 
 // What is special about the entries or the buffer, the entries, and the buffer's length.
@@ -10,9 +10,9 @@ struct Case(&'static str, &'static [Entry], usize);
 
 pub fn run(rt: &HostRuntime) -> io::Result<()> {
     println!(rt; "= Writing")?;
-    write_all(rt, ROOM)?;
-    write_all(rt, WIDTHS)?;
-    write_all(rt, ANY)?;
+    for cases in [ROOM, WIDTHS, ANY] {
+        write_all(rt, cases)?;
+    }
     println!(rt; "= Writing many entries")?;
     write_many(rt, "255 entries", 255)?;
     write_many(rt, "256 entries", 256)
@@ -22,7 +22,7 @@ fn write_all(rt: &HostRuntime, cases: &[Case]) -> io::Result<()> {
     for Case(name, entries, length) in cases {
         let mut buffer = vec![in rt.alloc(); FILLER; *length]?;
         tell(rt, name, write(entries, &mut buffer))?;
-        let after = Hex(&buffer);
+        let after = Bytes(&buffer);
         println!(rt; ", buffer{after}")?;
     }
     Ok(())
@@ -40,19 +40,9 @@ fn write_many(rt: &HostRuntime, name: &str, count: usize) -> io::Result<()> {
     let entries = vec![in rt.alloc(); Entry { line: 7, number: 8 }; count]?;
     let mut buffer = [FILLER; 1_000];
     tell(rt, name, write(&entries, &mut buffer))?;
-    let fillers = fillers_in(&buffer);
-    let front = Hex(&buffer[0..8]);
+    let fillers = buffer.iter().filter(|byte| **byte == FILLER).count();
+    let front = Bytes(&buffer[..8]);
     println!(rt; ", buffer begins{front} and has {fillers} bytes ee")
-}
-
-fn fillers_in(bytes: &[u8]) -> usize {
-    let mut fillers = 0usize;
-    for byte in bytes {
-        if *byte == FILLER {
-            fillers = fillers.saturating_add(1);
-        }
-    }
-    fillers
 }
 
 const TWO: &[Entry] = &[Entry { line: 0, number: 1 }, Entry { line: 2, number: 3 }];

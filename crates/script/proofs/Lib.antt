@@ -1,4 +1,5 @@
 pub mod Lengths
+pub mod Lines
 pub mod Listing
 pub mod Parsing
 pub mod RequestReads

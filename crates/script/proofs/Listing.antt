@@ -6,8 +6,9 @@ use Rattle.std.proofs.lemmas.Bool.{cases_lt}
 use Rattle.std.proofs.lemmas.Bool.Decides.{nat_tests}
 use Rattle.sets.specs.Sets.{Has}
 use Rattle.script.specs.Menus.{is_in, lines_below, marked, parted}
-use Rattle.script.specs.Writing.{Wrote}
-use Rattle.script.proofs.Writes.{wrote_then, wrote_as}
+use Rattle.script.specs.Writing.{Prints}
+use Rattle.script.specs.declared.printer.Printer.{Printer}
+use Rattle.script.proofs.Writes.{prints_then, prints_as}
 
 pub lines_none : (set : ℕ) → lines_below set 0 ≡ []
 unfolding lines_below
@@ -51,13 +52,13 @@ parted_more mark f ns n =
     ∙ (parted_push mark (map f ns) (f n) ∙ ap (λ g. parted mark (map f ns) ++ (g ++ f n)) (gap_map mark f ns))
 
 -- one line more of a menu: the gap and the line's words
-pub menu_more : {b m k a gap : List ℕ} {at q r s : ℕ} (mark : List ℕ) (f : ℕ → List ℕ) (ns : List ℕ) (n : ℕ) → Wrote b at (parted mark (map f ns)) m q → gap ≡ gap_after mark ns → Wrote m q gap k r → Wrote k r (f n) a s → Wrote b at (parted mark (map f (ns ++ (n ∷ [])))) a s
-menu_more mark f ns n so_far isGap atGap atWords =
-    wrote_as (sym (parted_more mark f ns n)) (wrote_then so_far (wrote_then (wrote_as isGap atGap) atWords))
+pub menu_more : {a b c d : Printer} {gap : List ℕ} (mark : List ℕ) (f : ℕ → List ℕ) (ns : List ℕ) (n : ℕ) → Prints a (parted mark (map f ns)) b → gap ≡ gap_after mark ns → Prints b gap c → Prints c (f n) d → Prints a (parted mark (map f (ns ++ (n ∷ [])))) d
+menu_more mark f ns n so_far is_gap at_gap at_words =
+    prints_as (sym (parted_more mark f ns n)) (prints_then so_far (prints_then (prints_as is_gap at_gap) at_words))
 
 -- one menu more of a page
-pub page_more : {b m a : List ℕ} {at r s : ℕ} (f : ℕ → List ℕ) (xs : List ℕ) (x : ℕ) → Wrote b at (flat_map f xs) m r → Wrote m r (f x) a s → Wrote b at (flat_map f (xs ++ (x ∷ []))) a s
-page_more f xs x p q = wrote_as (flat_map_more f [] xs x) (wrote_then p q)
+pub page_more : {a b c : Printer} (f : ℕ → List ℕ) (xs : List ℕ) (x : ℕ) → Prints a (flat_map f xs) b → Prints b (f x) c → Prints a (flat_map f (xs ++ (x ∷ []))) c
+page_more f xs x p q = prints_as (flat_map_more f [] xs x) (prints_then p q)
 
 pub take_min : (n : ℕ) (xs : List ℕ) → take (min n (length xs)) xs ≡ take n xs
 take_min n xs = ⊎_elim within beyond (cases_lt n (length xs))

@@ -24,14 +24,6 @@ write_fields fields (Rule place needs unless gives) fit e = absurd (omega (arith
 write_fields fields (Unrule place) fit e = absurd (omega (arith, ap (λ x. get_or x 0 0) e))
 write_fields fields (Listing from) fit e = absurd (omega (arith, ap (λ x. get_or x 0 0) e))
 
-pub strike_fields : (fields : List ℕ) (request : Request) → Fit request → codes "- " ++ fields ≡ request_text request → (line : ℕ) × Short line × (fields ≡ decimal line)
-strike_fields fields (Step needs gives) fit e = absurd (omega (arith, ap (λ x. get_or x 0 0) e))
-strike_fields fields (Write line words) fit e = absurd (omega (arith, ap (λ x. get_or x 0 0) e))
-strike_fields fields (Strike line) fit e = (line, fit, ap (drop 2) e)
-strike_fields fields (Rule place needs unless gives) fit e = absurd (omega (arith, ap (λ x. get_or x 0 0) e))
-strike_fields fields (Unrule place) fit e = absurd (omega (arith, ap (λ x. get_or x 0 0) e))
-strike_fields fields (Listing from) fit e = absurd (omega (arith, ap (λ x. get_or x 0 0) e))
-
 pub rule_fields : (fields : List ℕ) (request : Request) → Fit request → codes ": " ++ fields ≡ request_text request → (place : ℕ) × (needs : ℕ) × (unless : ℕ) × (gives : ℕ) × (Short place × IsLines needs × IsLines unless × Short gives) × (fields ≡ decimal place ++ (32 ∷ (set_text needs ++ (32 ∷ (set_text unless ++ (32 ∷ decimal gives))))))
 rule_fields fields (Step needs gives) fit e = absurd (omega (arith, ap (λ x. get_or x 0 0) e))
 rule_fields fields (Write line words) fit e = absurd (omega (arith, ap (λ x. get_or x 0 0) e))
@@ -39,22 +31,6 @@ rule_fields fields (Strike line) fit e = absurd (omega (arith, ap (λ x. get_or 
 rule_fields fields (Rule place needs unless gives) fit e = (place, needs, unless, gives, fit, ap (drop 2) e)
 rule_fields fields (Unrule place) fit e = absurd (omega (arith, ap (λ x. get_or x 0 0) e))
 rule_fields fields (Listing from) fit e = absurd (omega (arith, ap (λ x. get_or x 0 0) e))
-
-pub unrule_fields : (fields : List ℕ) (request : Request) → Fit request → codes "/ " ++ fields ≡ request_text request → (place : ℕ) × Short place × (fields ≡ decimal place)
-unrule_fields fields (Step needs gives) fit e = absurd (omega (arith, ap (λ x. get_or x 0 0) e))
-unrule_fields fields (Write line words) fit e = absurd (omega (arith, ap (λ x. get_or x 0 0) e))
-unrule_fields fields (Strike line) fit e = absurd (omega (arith, ap (λ x. get_or x 0 0) e))
-unrule_fields fields (Rule place needs unless gives) fit e = absurd (omega (arith, ap (λ x. get_or x 0 0) e))
-unrule_fields fields (Unrule place) fit e = (place, fit, ap (drop 2) e)
-unrule_fields fields (Listing from) fit e = absurd (omega (arith, ap (λ x. get_or x 0 0) e))
-
-pub list_fields : (fields : List ℕ) (request : Request) → Fit request → codes "? " ++ fields ≡ request_text request → (from : ℕ) × Short from × (fields ≡ decimal from)
-list_fields fields (Step needs gives) fit e = absurd (omega (arith, ap (λ x. get_or x 0 0) e))
-list_fields fields (Write line words) fit e = absurd (omega (arith, ap (λ x. get_or x 0 0) e))
-list_fields fields (Strike line) fit e = absurd (omega (arith, ap (λ x. get_or x 0 0) e))
-list_fields fields (Rule place needs unless gives) fit e = absurd (omega (arith, ap (λ x. get_or x 0 0) e))
-list_fields fields (Unrule place) fit e = absurd (omega (arith, ap (λ x. get_or x 0 0) e))
-list_fields fields (Listing from) fit e = (from, fit, ap (drop 2) e)
 
 -- What the parts of the fields are then.
 

@@ -1,12 +1,13 @@
 -- Sets as a reader takes them apart, line by line.
-use Rattle.std.proofs.Common.{◌≡◌, ℕ, zero, suc, ◌+◌, ◌%◌, ◌^◌, ◌<◌, ◌≤◌, Bool, true, false, cond, ◌⊎◌, List, [], ◌∷◌, ◌++◌, map, codes, decimal, sym, refl, ap, ◌∙◌, subst, ⊎_elim, add-one, arith}
+use Rattle.std.proofs.Common.{◌≡◌, ℕ, zero, suc, ◌+◌, ◌%◌, ◌^◌, ◌<◌, ◌≤◌, Bool, true, false, cond, ◌⊎◌, List, [], ◌∷◌, ◌++◌, map, length, get_or, codes, decimal, sym, refl, ap, ◌∙◌, subst, ⊎_elim, add-one, arith}
 use native.Mathlib.Nat.{zero-div}
 use Rattle.std.proofs.lemmas.Fmt.{decimal_injective}
 use Rattle.std.proofs.lemmas.List.{append-nil, append_assoc}
 use Rattle.std.proofs.lemmas.Bool.{cases_lt, cases_eq}
 use Rattle.sets.specs.Sets.{Has, Within, IsLines}
 use Rattle.script.specs.Menus.{is_in, lines_below, marked, parted}
-use Rattle.script.specs.Reading.{Lacks, Parts, lines_text, set_text}
+use Rattle.std.specs.Bool.{then_some}
+use Rattle.script.specs.Reading.{Lacks, Parts, ReadsLine, Short, lines_text, set_text}
 use Rattle.script.proofs.Listing.{gap_after, gap_push, lines_none, lines_with, lines_without, parted_more}
 use Rattle.script.proofs.Parsing.{decimal_lacks, lacks_not, lacks_append, lacks_cons, lacks_none, one_parting}
 
@@ -193,3 +194,16 @@ lines_lack (n ∷ ns) r =
 pub set_lacks : (set : ℕ) → Lacks 32 (set_text set)
 unfolding set_text
 set_lacks set = lines_lack (lines_below set 64) (lines_rising set 64)
+
+-- a text of one byte
+pub one_byte : (x : ℕ) (text : List ℕ) → length text ≡ 1 → get_or text 0 0 ≡ x → text ≡ x ∷ []
+one_byte x [] one first = absurd (omega arith)
+one_byte x (y ∷ []) one first = cc
+one_byte x (y ∷ z ∷ rest) one first = absurd (omega arith)
+
+-- a number that is taken for a line where it is in range
+pub line_read : (field : List ℕ) (least line : ℕ) (b : Bool) → Short line → field ≡ decimal line → (b ≡ true → (least ≤ line) × (line < 64)) → (b ≡ false → least ≤ line → line < 64 → ⊥) → ReadsLine field least (then_some b line)
+line_read field least line true short is inside outside = let h = inside refl in (h.0, h.1, is)
+line_read field least line false short is inside outside = λ n low high e.
+    let same = decimal_injective line n (omega arith) (omega arith) (sym is ∙ e) in
+    outside refl (omega (arith, same)) (omega (arith, same))

@@ -10,7 +10,8 @@ use Rattle.script.specs.Calls.{ScriptFacts, Begun, Started, Stepped, Called, Lis
 use Rattle.script.specs.Menus.{listed_text}
 use Rattle.script.specs.Reading.{Fit, request_text}
 use Rattle.script.specs.Texts.{bad_text, done_text, no_text, written_text}
-use Rattle.script.specs.Writing.{Wrote}
+use Rattle.script.specs.Writing.{Prints}
+use Rattle.script.specs.declared.printer.Printer.{Printer}
 use Rattle.script.specs.declared.request.Request.{Request}
 use Rattle.script.specs.declared.request.Request.TheVariants.{Step, Write, Strike, Rule, Unrule, List as Listing}
 use Rattle.script.specs.declared.session.Session.{Session}
@@ -70,12 +71,12 @@ pub record Opens (number : ℕ) (is : Session) : Type 0 where
   pub numbered : is.number ≡ number
   pub state : is.state ≡ Collecting facts
 
--- A text that is so was printed at the buffer's start, which has room for it.
-pub record Said (So : List ℕ → Type 0) (before after : List ℕ) (end : ℕ) : Type 0 where
+-- A text that is so was printed, and the least room fits it.
+pub record Said (So : List ℕ → Type 0) (was is : Printer) : Type 0 where
   pub text : List ℕ
   pub so : So text
   pub short : length text ≤ 32768
-  pub wrote : Wrote before 0 text after end
+  pub printed : Prints was text is
 
 -- The answer to a line that begins at the place: to the request whose text it is, or to a bad line, which alters nothing.
 abbrev pub LineAnswer : Session → List ℕ → ℕ → Session → List ℕ → Type 0

@@ -5,6 +5,7 @@ ghost use Rattle.std.specs.Prelude.{◌≤◌, length, MatchOption};
 ghost use Rattle.script.specs.Lines.{Bounded};
 
 mod print;
+mod printer;
 pub mod request;
 pub mod session;
 
@@ -25,11 +26,10 @@ pub fn next_line(input: &[u8], from: usize) -> Option<Bounds>
     if from >= input.len() {
         return None;
     }
-    for end in from..input.len() {
-        if input[end] == b'\n' {
-            return Some(Bounds { end, next: end + 1 });
-        }
-    }
-    let end = input.len();
-    Some(Bounds { end, next: end })
+    let found = input[from..].iter().position(|byte| *byte == b'\n');
+    let end = found.map_or(input.len(), |at| from + at);
+    Some(Bounds {
+        end,
+        next: input.len().min(end + 1),
+    })
 }

@@ -114,25 +114,18 @@ fn list(fields: &[u8]) -> Option<Request<'_>>
 fn cut(bytes: &[u8], mark: u8) -> Option<(&[u8], &[u8])>
     ensures { MatchOption result (Lacks mark bytes.now) (λ parts. Parts bytes.now mark parts.0.now parts.1.now) }
 {
-    for (i, byte) in bytes.iter().enumerate() {
-        if *byte == mark {
-            return Some((&bytes[0..i], &bytes[i + 1..]));
-        }
-    }
-    None
+    let at = bytes.iter().position(|byte| *byte == mark)?;
+    Some((&bytes[..at], &bytes[at + 1..]))
 }
 
 // A number of at most five digits, with no needless zero in front.
 fn number(field: &[u8]) -> Option<u32>
     ensures { ReadsNumber field.now result }
 {
-    if field.is_empty() {
-        return None;
+    match field {
+        [] | [b'0', _, ..] => None,
+        _ => digits(field),
     }
-    if field.len() > 1 && field[0] == b'0' {
-        return None;
-    }
-    digits(field)
 }
 
 // The value of digits of which the first is not zero, so that a sixth one would make it 100,000.
@@ -152,20 +145,16 @@ fn digits(field: &[u8]) -> Option<u32>
 fn digit(byte: u8) -> Option<u32>
     ensures { MatchOption result ((48 ≤ byte) × (byte ≤ 57) → ⊥) (λ d. (48 ≤ byte) × (byte ≤ 57) × (d ≡ byte - 48)) }
 {
-    match byte {
-        b'0'..=b'9' => Some(u32::from(byte - b'0')),
-        _ => None,
-    }
+    char::from(byte).to_digit(10)
 }
 
 // A set of lines: `.` if it is empty, else its lines.
 fn set(field: &[u8]) -> Option<u64>
     ensures { ReadsSet field.now result }
 {
-    if field == b".".as_slice() {
-        Some(0)
-    } else {
-        lines(field)
+    match field {
+        [b'.'] => Some(0),
+        _ => lines(field),
     }
 }
 
@@ -191,9 +180,5 @@ fn line_from(item: &[u8], least: u32) -> Option<u32>
     ensures { ReadsLine item.now least result }
 {
     let line = number(item)?;
-    if least <= line && line < 64 {
-        Some(line)
-    } else {
-        None
-    }
+    (least..64).contains(&line).then_some(line)
 }

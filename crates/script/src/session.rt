@@ -1,7 +1,7 @@
 // A script's run: steps first, and then calls of the planner made over them.
-ghost use Rattle.script.specs.Answering.{AnswersLine, Opens, Pages, Plans, Said, SessionAsks};
+ghost use Rattle.script.specs.Answering.{AnswersLine, LineAnswer, Opens, Pages, Plans, Said, SessionAsks};
 
-use crate::print;
+use crate::printer::Printer;
 use crate::request::{Request, read};
 use facts::Bare;
 use facts::steps::Steps;
@@ -46,33 +46,37 @@ impl Session {
         if buffer.len() < ROOM {
             return Err(Refusal::BufferTooShort);
         }
-        let end = match read(line) {
-            Some(request) => self.ask(request, place, buffer),
-            None => print::bad(buffer, place),
-        };
-        Ok(end)
+        let mut printer = Printer::new(buffer);
+        self.print(line, place, &mut printer);
+        Ok(printer.at)
     }
 
-    fn ask(&mut self, request: Request<'_>, place: usize, buffer: &mut [u8]) -> usize
-        ensures { Said (SessionAsks self.old place request.entry self.new) buffer.old buffer.new result }
+    fn print(&mut self, line: &[u8], place: usize, printer: &mut Printer<'_>)
+        ensures { Said (LineAnswer self.old line.now place self.new) printer.old printer.new }
+    {
+        match read(line) {
+            Some(request) => self.ask(request, place, printer),
+            None => printer.bad(place),
+        }
+    }
+
+    fn ask(&mut self, request: Request<'_>, place: usize, printer: &mut Printer<'_>)
+        ensures { Said (SessionAsks self.old place request.entry self.new) printer.old printer.new }
     {
         match mem::replace(&mut self.state, State::Collecting(Steps::new(Bare))) {
             State::Planning(mut planner) => {
-                let end = plan(&mut planner, request, place, buffer);
+                plan(&mut planner, request, place, printer);
                 self.state = State::Planning(planner);
-                end
             }
             State::Collecting(mut steps) => match request {
                 Request::Step { needs, gives } => {
-                    let result = steps.step(needs, gives);
+                    printer.done(steps.step(needs, gives));
                     self.state = State::Collecting(steps);
-                    print::done(buffer, result)
                 }
                 _ => {
                     let mut planner = Planner::new(self.number, steps);
-                    let end = plan(&mut planner, request, place, buffer);
+                    plan(&mut planner, request, place, printer);
                     self.state = State::Planning(planner);
-                    end
                 }
             },
         }
@@ -84,31 +88,31 @@ fn plan(
     planner: &mut Planner<Steps<Bare>>,
     request: Request<'_>,
     place: usize,
-    buffer: &mut [u8],
-) -> usize
-    ensures { Said (Plans planner.old place request.entry planner.new) buffer.old buffer.new result }
+    printer: &mut Printer<'_>,
+)
+    ensures { Said (Plans planner.old place request.entry planner.new) printer.old printer.new }
 {
     match request {
-        Request::Step { .. } => print::bad(buffer, place),
-        Request::Write { line, words } => print::written(buffer, planner.write(line, words)),
-        Request::Strike { line } => print::done(buffer, planner.strike(line)),
+        Request::Step { .. } => printer.bad(place),
+        Request::Write { line, words } => printer.written(planner.write(line, words)),
+        Request::Strike { line } => printer.done(planner.strike(line)),
         Request::Rule {
             place,
             needs,
             unless,
             gives,
-        } => { print::done(buffer, planner.rule(place, needs, unless, gives)) }
-        Request::Unrule { place } => print::done(buffer, planner.unrule(place)),
-        Request::List { from } => list(planner, from, buffer),
+        } => { printer.done(planner.rule(place, needs, unless, gives)) }
+        Request::Unrule { place } => printer.done(planner.unrule(place)),
+        Request::List { from } => list(planner, from, printer),
     }
 }
 
-fn list(planner: &Planner<Steps<Bare>>, from: u32, buffer: &mut [u8]) -> usize
-    ensures { Said (Pages planner.now from) buffer.old buffer.new result }
+fn list(planner: &Planner<Steps<Bare>>, from: u32, printer: &mut Printer<'_>)
+    ensures { Said (Pages planner.now from) printer.old printer.new }
 {
     let mut page = [0; PAGE];
     match planner.list(from, &mut page) {
-        Ok(listing) => print::listed(buffer, &page, listing, planner.guesses(), planner.book()),
-        Err(refusal) => print::no(buffer, refusal),
+        Ok(listing) => printer.listed(&page, listing, planner.guesses(), planner.book()),
+        Err(refusal) => printer.no(refusal),
     }
 }

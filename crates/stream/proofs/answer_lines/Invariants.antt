@@ -5,7 +5,7 @@ use Rattle.stream.proofs.answer_lines.Given as goal
 abbrev pub invariant-loop-end : goal.invariant-loop-end
 invariant-loop-end l =
     (l.from ≤ length l.input) ×
-    Appended (Run l.input l.initial.session l.from l.session) (vec_items l.initial.out) (vec_items l.out)
+    Appended (Run l.input l.initial.speaker.session l.from l.speaker.session) (vec_items l.initial.out) (vec_items l.out)
 
 abbrev pub decreases-loop-end : goal.decreases-loop-end
 decreases-loop-end l = length l.initial.input - l.from

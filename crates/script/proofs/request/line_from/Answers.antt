@@ -1,9 +1,8 @@
-use Rattle.std.proofs.Common.{sym, ◌∙◌, ⊎_elim, arith}
-use Rattle.std.proofs.lemmas.Fmt.{decimal_injective}
+use Rattle.std.proofs.Common.{rules, tests}
+use Rattle.script.proofs.SetReads.{line_read}
 use Rattle.script.proofs.request.line_from.Goals as goal
 
-pub returns-else-least-line : goal.returns-else-least-line
-returns-else-least-line c = λ n low high e.
+pub returns : goal.returns
+returns c =
     let read = c.in_ok-line.ensures in
-    let same = decimal_injective c.in_ok-line.line n (omega (arith, read.0)) (omega arith) (sym read.1 ∙ e) in
-    ⊎_elim (λ w. omega (arith, same, w.1)) (λ w. omega (arith, same, w)) c.else-least-line.either
+    rw c.then_some.ensures (line_read c.args.item.now c.args.least c.in_ok-line.line c.contains.result read.0 read.1 (λ h. search (rules, tests)) (λ h low high. search (rules, tests)))

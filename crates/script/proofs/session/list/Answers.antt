@@ -6,7 +6,7 @@ use Rattle.script.specs.Menus.{listed_text}
 use Rattle.script.specs.Texts.{no_text}
 use Rattle.script.proofs.Lengths.{short_as}
 use Rattle.script.proofs.Sayings.{said}
-use Rattle.script.proofs.Writes.{wrote_as}
+use Rattle.script.proofs.Writes.{prints_as}
 use Rattle.script.proofs.session.list.Goals as goal
 
 pub returns-in-Ok : goal.returns-in-Ok
@@ -22,11 +22,11 @@ returns-in-Ok c =
       text = page_text planner page (Ok found);
       so = record { page = page; result = Ok found; full = full; call = c.in-Ok.ensures; says = refl };
       short = short_as e (c.listed.ensures.short (omega arith));
-      wrote = wrote_as e c.listed.ensures.wrote;
+      printed = prints_as e c.listed.ensures.wrote;
     }
 
 pub returns-in-Err : goal.returns-in-Err
 returns-in-Err c =
     let page = c.list.new.page in
     let full : length page ≡ 16 = c.list.auto.page in
-    said (no_text c.in-Err.refusal) record { page = page; result = Err c.in-Err.refusal; full = full; call = c.in-Err.ensures; says = refl } c.no.ensures.short c.no.ensures.wrote
+    said (no_text c.in-Err.refusal) record { page = page; result = Err c.in-Err.refusal; full = full; call = c.in-Err.ensures; says = refl } c.no.ensures

@@ -1,7 +1,0 @@
-use Rattle.std.proofs.Common.{codes, arith}
-use Rattle.script.proofs.Lengths.{counted_short}
-use Rattle.script.proofs.print.bad.Goals as goal
-
-pub returns : goal.returns
-returns c =
-    record { wrote = c.count.ensures; short = counted_short (codes "bad ") c.args.place (omega arith) (omega arith) }
