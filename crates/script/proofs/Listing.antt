@@ -1,5 +1,5 @@
 -- How a menu is printed line by line, and a page menu by menu.
-use Rattle.std.proofs.Common.{◌≡◌, ℕ, ◌+◌, ◌<◌, ◌≤◌, min, true, false, cond, List, [], ◌∷◌, ◌++◌, map, length, take, sym, refl, ap, ◌∙◌, ⊎_elim, add-one, arith}
+use Rattle.std.proofs.Common.{◌≡◌, ℕ, ◌+◌, ◌<◌, ◌≤◌, min, true, false, cond, List, [], ◌∷◌, ◌++◌, map, length, take, codes, sym, refl, ap, ◌∙◌, subst, ⊎_elim, add-one, arith}
 use Rattle.std.specs.List.{flat_map}
 use Rattle.std.proofs.lemmas.List.{append-nil, append_assoc, map_push, take_all, flat_map_more}
 use Rattle.std.proofs.lemmas.Bool.{cases_lt}
@@ -8,7 +8,7 @@ use Rattle.sets.specs.Sets.{Has}
 use Rattle.script.specs.Menus.{is_in, lines_below, marked, parted}
 use Rattle.script.specs.Writing.{Prints}
 use Rattle.script.specs.declared.printer.Printer.{Printer}
-use Rattle.script.proofs.Writes.{prints_then, prints_as}
+use Rattle.script.proofs.Writes.{prints_none, prints_then, prints_as}
 
 pub lines_none : (set : ℕ) → lines_below set 0 ≡ []
 unfolding lines_below
@@ -55,6 +55,20 @@ parted_more mark f ns n =
 pub menu_more : {a b c d : Printer} {gap : List ℕ} (mark : List ℕ) (f : ℕ → List ℕ) (ns : List ℕ) (n : ℕ) → Prints a (parted mark (map f ns)) b → gap ≡ gap_after mark ns → Prints b gap c → Prints c (f n) d → Prints a (parted mark (map f (ns ++ (n ∷ [])))) d
 menu_more mark f ns n so_far is_gap at_gap at_words =
     prints_as (sym (parted_more mark f ns n)) (prints_then so_far (prints_then (prints_as is_gap at_gap) at_words))
+
+-- the texts of these numbers are printed, parted by blanks, and this gap comes next
+abbrev pub Listed : Printer → (ℕ → List ℕ) → Printer → List ℕ → List ℕ → Type 0
+Listed was f is gap ns = Prints was (parted (codes " ") (map f ns)) is × (gap ≡ gap_after (codes " ") ns)
+
+pub listed_none : (p : Printer) (f : ℕ → List ℕ) (set : ℕ) → Listed p f p [] (lines_below set 0)
+listed_none p f set = subst (Listed p f p []) (sym (lines_none set)) (prints_none p, refl)
+
+pub listed_more : {a b c d : Printer} {gap : List ℕ} (f : ℕ → List ℕ) (set n : ℕ) → Listed a f b gap (lines_below set n) → Has set n → Prints b gap c → Prints c (f n) d → Listed a f d (codes " ") (lines_below set (n + 1))
+listed_more {a} {b} {c} {d} {gap} f set n so has at_gap at_words =
+    subst (Listed a f d (codes " ")) (sym (lines_with set n has)) (menu_more (codes " ") f (lines_below set n) n so.0 so.1 at_gap at_words, sym (gap_push (codes " ") (lines_below set n) n))
+
+pub listed_same : (a b : Printer) (gap : List ℕ) (f : ℕ → List ℕ) (set n : ℕ) → (Has set n → ⊥) → Listed a f b gap (lines_below set n) → Listed a f b gap (lines_below set (n + 1))
+listed_same a b gap f set n out so = subst (Listed a f b gap) (sym (lines_without set n out)) so
 
 -- one menu more of a page
 pub page_more : {a b c : Printer} (f : ℕ → List ℕ) (xs : List ℕ) (x : ℕ) → Prints a (flat_map f xs) b → Prints b (f x) c → Prints a (flat_map f (xs ++ (x ∷ []))) c

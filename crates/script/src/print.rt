@@ -9,6 +9,7 @@ use crate::printer::Printer;
 use book::book::Book;
 use planner::Listing;
 use sets::refusal::Refusal;
+use sets::walk::Lines;
 
 impl Printer<'_> {
     fn put(&mut self, bytes: &[u8])
@@ -86,12 +87,10 @@ impl Printer<'_> {
         ensures { Prints self.old (menu_text (view book.now) set) self.new }
     {
         let mut gap: &[u8] = b"";
-        for n in 0..64 {
-            if sets::has(set, n) {
-                self.put(gap);
-                self.words(book, n);
-                gap = b" ";
-            }
+        for line in Lines::of(set) {
+            self.put(gap);
+            self.words(book, line);
+            gap = b" ";
         }
         self.put(b"\n")
     }
@@ -100,9 +99,8 @@ impl Printer<'_> {
     fn words(&mut self, book: &Book, n: u32)
         ensures { Prints self.old (words_at (view book.now) n) self.new }
     {
-        match book.statement(n) {
-            Some(row) => self.put(&row.words[0..row.len]),
-            None => (),
+        if let Some(row) = book.statement(n) {
+            self.put(row.words.as_slice());
         }
     }
 

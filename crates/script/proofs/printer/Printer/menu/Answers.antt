@@ -1,39 +1,38 @@
-use Rattle.std.proofs.Common.{◌≡◌, map, codes, sym, ap, ◌∙◌, arith}
-use Rattle.std.proofs.lemmas.Bool.Decides.{not_from_Decides}
+use Rattle.std.proofs.Common.{◌≡◌, ℕ, [], codes, rules, sym, subst}
+use Rattle.sets.proofs.Walking.{Walked, walk_start, walk_to, walk_on, walk_end}
 use Rattle.book.specs.View.{view}
-use Rattle.script.specs.Menus.{words_at, lines_below, parted, menu_text}
-use Rattle.script.proofs.Listing.{gap_after, gap_push, lines_none, lines_with, lines_without, menu_more}
-use Rattle.script.proofs.Writes.{prints_none, prints_then, prints_as, prints_at}
+use Rattle.script.specs.Menus.{words_at, lines_below, menu_text}
+use Rattle.script.proofs.Listing.{Listed, listed_none, listed_more, listed_same}
+use Rattle.script.proofs.Writes.{prints_then}
 use Rattle.script.proofs.printer.Printer.menu.Goals as goal
-use Rattle.script.proofs.printer.Printer.menu.Goals.{then-has, else-has}
 
-pub loop-n-init : goal.loop-n-init
-loop-n-init c =
-    let e = sym (lines_none c.args.set) in
-    (prints_as (ap (λ ns. parted (codes " ") (map (words_at (view c.args.book.now)) ns)) e) (prints_none _), ap (gap_after (codes " ")) e)
-
-pub loop-n-preserved : goal.loop-n-preserved
-loop-n-preserved c =
+pub loop-line-init : goal.loop-line-init
+loop-line-init c =
     let set = c.args.set in
-    let n = c.loop-n.n in
     let words = words_at (view c.args.book.now) in
-    elim c.if-has.branch [
-      | then-has w ↦
-          let e = sym (lines_with set n (c.has.ensures.0 w.if-has.true)) in (
-            prints_at w.self-is
-                (prints_as (ap (λ ns. parted (codes " ") (map words ns)) e)
-                (menu_more (codes " ") words (lines_below set n) n c.loop-n.invariant.0 c.loop-n.invariant.1 w.put.ensures w.words.ensures)),
-            ap (λ g. g.now) w.gap-is ∙ (sym (gap_push (codes " ") (lines_below set n) n) ∙ ap (gap_after (codes " ")) e),
-          )
-      | else-has w ↦
-          let e = sym (lines_without set n (not_from_Decides _ c.has.ensures w.if-has.false)) in (
-            prints_at w.self-is (prints_as (ap (λ ns. parted (codes " ") (map words ns)) e) c.loop-n.invariant.0),
-            ap (λ g. g.now) w.gap-is ∙ (c.loop-n.invariant.1 ∙ ap (gap_after (codes " ")) e),
-          )
-    ]
+    let was = c.args.self.now in
+    let so = λ (k : ℕ). Listed was words was [] (lines_below set k) in
+    let all : c.into_iter-line-iterator.result.left ≡ set = search rules in
+    subst (Walked so set) (sym all) (walk_start so set (listed_none was words set))
+
+pub loop-line-preserved : goal.loop-line-preserved
+loop-line-preserved c =
+    let set = c.args.set in
+    let words = words_at (view c.args.book.now) in
+    let was = c.args.self.now in
+    let is = c.loop-line.self in
+    let gap = c.loop-line.gap.now in
+    let line = c.in-Some.line in
+    let so = λ (k : ℕ). Listed was words is gap (lines_below set k) in
+    let at = walk_to so set (listed_same was is gap words set) _ line _ c.loop-line.invariant c.in-Some.ensures.steps in
+    let more = listed_more words set line at.1 at.0 c.put.ensures c.words.ensures in
+    walk_on so (λ k. Listed was words c.words.new.self (codes " ") (lines_below set k)) set _ line _ c.ranges.set.fits c.loop-line.invariant c.in-Some.ensures.steps more
 
 pub returns : goal.returns
 unfolding menu_text
 returns c =
-    let e : c.loop-n.n ≡ 64 = omega arith in
-    prints_then (prints_as (ap (λ n. parted (codes " ") (map (words_at (view c.args.book.now)) (lines_below c.args.set n))) e) c.loop-n.invariant.0) c.put-2.ensures
+    let set = c.args.set in
+    let words = words_at (view c.args.book.now) in
+    let so = λ (k : ℕ). Listed c.args.self.now words c.loop-line.self c.loop-line.gap.now (lines_below set k) in
+    let all = walk_end so set (listed_same c.args.self.now c.loop-line.self c.loop-line.gap.now words set) _ _ c.loop-line.invariant c.in-None.ensures.steps in
+    prints_then all.0 c.put-2.ensures
