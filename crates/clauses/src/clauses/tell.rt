@@ -14,8 +14,9 @@ impl Clauses {
         ensures clauses { clauses_of result ≡ [] }
         ensures senses { (n : ℕ) → sense_of result n ≡ None }
     {
+        let told = ArrayVec::new();
         Clauses {
-            told: ArrayVec::new(),
+            told,
             met: Rows::every(),
             senses: [None; 64],
         }
