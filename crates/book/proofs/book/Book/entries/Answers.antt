@@ -1,11 +1,12 @@
-use Rattle.std.proofs.Common.{◌≡◌, ℕ, ◌+◌, ◌<◌, Bool, true, false, List, [], ◌∷◌, ◌++◌, length, rules, sym, refl, ap, ◌∙◌, subst, arith}
+use Rattle.std.proofs.Common.{◌≡◌, ℕ, ◌+◌, List, rules, sym, refl, ap, ◌∙◌, subst, arith}
 use Rattle.std.specs.Option.{option_map}
 use Rattle.sets.specs.Sets.{Has}
 use Rattle.sets.proofs.Lines.{has_below}
 use Rattle.sets.proofs.Rows.{no_some}
 use Rattle.sets.proofs.Walking.{Walked, walk_start, walk_to, walk_on, walk_end}
-use Rattle.record.specs.Record.{Pushes, listed}
+use Rattle.record.specs.Record.{listed}
 use Rattle.record.specs.declared.entries.Entry.{Entry}
+use Rattle.record.proofs.Reading.{pushed}
 use Rattle.book.specs.Contents.{Contents}
 use Rattle.book.specs.View.{view}
 use Rattle.book.proofs.Words.{number_given}
@@ -23,11 +24,6 @@ loop-line-init c =
 -- a line that is not in the set adds no entry
 passed : (c : Contents) (lines : ℕ) (es : List Entry) (k : ℕ) → (Has lines k → ⊥) → Gathered c lines k es → Gathered c lines (k + 1) es
 passed c lines es k out so = gathered_same c lines k es so (λ has. absurd (out has))
-
--- there was room for the entry, so it was added
-pushed : (before : List Entry) (e : Entry) (after : List Entry) (r : Bool) → length before < 64 → Pushes before e after r → after ≡ before ++ (e ∷ [])
-pushed before e after true few h = h.1
-pushed before e after false few h = absurd (omega (arith, h.0))
 
 pub loop-line-preserved : goal.loop-line-preserved
 loop-line-preserved c =
@@ -51,7 +47,7 @@ loop-line-preserved-in-Some-statement c =
     let at = walk_to so lines (passed (view b) lines es) _ line _ c.loop-line.invariant c.in-Some.ensures.steps in
     let low = has_below lines line c.ranges.lines.fits at.0 in
     let numbered = ap (option_map (λ s. s.number)) (sym c.in-Some-statement.ensures.said) in
-    let added = pushed es _ (listed c.push.new.self) c.push.result (gathered_few (view b) lines line es at.1 low) c.push.ensures in
+    let added = pushed es (listed c.push.new.self) _ c.push.result c.push.ensures (gathered_few (view b) lines line es at.1 low) in
     let more = gathered_more (view b) lines line es at.1 (record { line = line; number = number }) low refl at.0 numbered (number_given b line number numbered) in
     walk_on so (λ k. Gathered (view b) lines k (listed c.push.new.self)) lines _ line _ c.ranges.lines.fits c.loop-line.invariant c.in-Some.ensures.steps (subst (Gathered (view b) lines (line + 1)) (sym added) more)
 
