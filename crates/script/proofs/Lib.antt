@@ -1,3 +1,4 @@
+pub mod Items
 pub mod Lengths
 pub mod Lines
 pub mod Listing

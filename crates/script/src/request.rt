@@ -52,7 +52,7 @@ pub fn read(line: &[u8]) -> Option<Request<'_>>
 fn step(fields: &[u8]) -> Option<Request<'_>>
     ensures { ReadsRequest (codes "> " ++ fields.now) result }
 {
-    let (needs, gives) = cut(fields, b' ')?;
+    let (needs, gives) = cut(fields)?;
     Some(Request::Step {
         needs: set(needs)?,
         gives: number(gives)?,
@@ -62,7 +62,7 @@ fn step(fields: &[u8]) -> Option<Request<'_>>
 fn write(fields: &[u8]) -> Option<Request<'_>>
     ensures { ReadsRequest (codes "+ " ++ fields.now) result }
 {
-    let (line, words) = cut(fields, b' ')?;
+    let (line, words) = cut(fields)?;
     if words.is_empty() || words.contains(&b' ') {
         return None;
     }
@@ -83,9 +83,9 @@ fn strike(fields: &[u8]) -> Option<Request<'_>>
 fn rule(fields: &[u8]) -> Option<Request<'_>>
     ensures { ReadsRequest (codes ": " ++ fields.now) result }
 {
-    let (place, rest) = cut(fields, b' ')?;
-    let (needs, rest) = cut(rest, b' ')?;
-    let (unless, gives) = cut(rest, b' ')?;
+    let (place, rest) = cut(fields)?;
+    let (needs, rest) = cut(rest)?;
+    let (unless, gives) = cut(rest)?;
     Some(Request::Rule {
         place: number(place)?,
         needs: set(needs)?,
@@ -110,12 +110,12 @@ fn list(fields: &[u8]) -> Option<Request<'_>>
     })
 }
 
-// What stands before the first `mark` and what stands after it; none without a mark.
-fn cut(bytes: &[u8], mark: u8) -> Option<(&[u8], &[u8])>
-    ensures { MatchOption result (Lacks mark bytes.now) (λ parts. Parts bytes.now mark parts.0.now parts.1.now) }
+// What stands before the first space and what stands after it; none without a space.
+fn cut(fields: &[u8]) -> Option<(&[u8], &[u8])>
+    ensures { MatchOption result (Lacks 32 fields.now) (λ parts. Parts fields.now 32 parts.0.now parts.1.now) }
 {
-    let at = bytes.iter().position(|byte| *byte == mark)?;
-    Some((&bytes[..at], &bytes[at + 1..]))
+    let at = fields.iter().position(|byte| *byte == b' ')?;
+    Some((&fields[..at], &fields[at + 1..]))
 }
 
 // A number of at most five digits, with no needless zero in front.
@@ -164,15 +164,12 @@ fn lines(field: &[u8]) -> Option<u64>
 {
     let mut lines = 0;
     let mut least = 0;
-    let mut rest = field;
-    while let Some((item, more)) = cut(rest, b',') {
+    for item in field.split(|byte| *byte == b',') {
         let line = line_from(item, least)?;
         lines = sets::with(lines, line);
         least = line + 1;
-        rest = more;
     }
-    let last = line_from(rest, least)?;
-    Some(sets::with(lines, last))
+    Some(lines)
 }
 
 // A line from `least` to 63.

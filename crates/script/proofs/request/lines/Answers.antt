@@ -1,36 +1,28 @@
-use Rattle.std.proofs.Common.{◌+◌, ◌∷◌, length, ap, arith}
-use Rattle.std.proofs.lemmas.List.{length-append}
-use Rattle.script.proofs.SetReads.{rising_le, nothing_read, first_left, last_left, one_more, all_read, only_empty}
+use Rattle.std.proofs.Common.{ℕ, ◌+◌, drop, sym, subst, rules, tests, arith}
+use Rattle.std.specs.List.{slice_split}
+use Rattle.std.proofs.lemmas.List.{length_push}
+use Rattle.script.proofs.Items.{ReadSoFar, is_comma, read_nothing, item_read, item_bad, item_next, items_end}
+use Rattle.script.proofs.SetReads.{only_empty}
 use Rattle.script.proofs.request.lines.Goals as goal
 
 pub loop-item-init : goal.loop-item-init
-loop-item-init c = nothing_read c.args.field.now
+loop-item-init c = read_nothing c.args.field.now
 
 pub returns-in_err-line : goal.returns-in_err-line
-returns-in_err-line c = rw c.from_residual.ensures (only_empty c.args.field.now (λ n ns r e.
-    let f = first_left _ _ _ _ _ _ c.loop-item.invariant c.in-Some.ensures n ns r e in
-    let low = rising_le (f.0 + 1) (f.1 ∷ f.2) 64 f.3.1 in
-    c.in_err-line.ensures f.0 f.3.0 (omega arith) f.4))
-
-pub loop-item-smaller : goal.loop-item-smaller
-loop-item-smaller c =
-    let l = length-append c.in-Some.item.now (44 ∷ c.in-Some.more.now) in
-    omega (arith, l, ap length c.in-Some.ensures.whole)
+returns-in_err-line c =
+    let at = item_next _ _ _ c.args.field.now c.loop-item.yielded c.next.result c.loop-item.yielded_by c.next.ensures.steps (search rules) (search rules) (λ x b q k. search (rules, tests)) c.in-Some.item c.in-Some.is in
+    rw c.from_residual.ensures (only_empty c.args.field.now (item_bad c.args.field.now _ _ _ c.in-Some.item.now c.loop-item.invariant at c.in_err-line.ensures))
 
 pub loop-item-preserved : goal.loop-item-preserved
 loop-item-preserved c =
+    let at = item_next _ _ _ c.args.field.now c.loop-item.yielded c.next.result c.loop-item.yielded_by c.next.ensures.steps (search rules) (search rules) (λ x b q k. search (rules, tests)) c.in-Some.item c.in-Some.is in
     let line = c.in_ok-line.ensures in
     let w = c.with-lines.ensures in
-    one_more _ _ _ _ _ _ _ _ c.loop-item.invariant c.in-Some.ensures line.0 line.1 line.2
-    record { old = w.old; new = w.new line.1; only = w.only } (omega arith)
-
-pub returns-in_err-last : goal.returns-in_err-last
-returns-in_err-last c = rw c.from_residual-in_err-last.ensures (only_empty c.args.field.now (λ n ns r e.
-    let l = last_left _ _ _ _ c.loop-item.invariant c.in_default.ensures n ns r e in
-    c.in_err-last.ensures l.0 l.1 l.2 l.3))
+    let read = item_read c.args.field.now _ _ _ c.in-Some.item.now c.loop-item.invariant at c.in_ok-line.line c.with-lines.result line.0 line.1 line.2 record { old = w.old; new = w.new line.1; only = w.only } (omega arith) in
+    let P : ℕ → Type 0 = λ n. ReadSoFar c.args.field.now c.with-lines.result (c.in_ok-line.line + 1) (drop n (slice_split is_comma c.args.field.now)) in
+    subst P (sym (length_push c.loop-item.yielded c.in-Some.item)) read
 
 pub returns : goal.returns
 returns c =
-    let line = c.in_ok-last.ensures in
-    let w = c.with.ensures in
-    (omega arith, all_read _ _ _ _ _ _ c.loop-item.invariant line.0 line.1 line.2 record { old = w.old; new = w.new line.1; only = w.only })
+    let end = items_end _ _ _ c.args.field.now c.loop-item.yielded c.next.result c.loop-item.yielded_by c.next.ensures.steps (search rules) (search rules) (λ x b q k. search (rules, tests)) c.in-None.is in
+    subst (ReadSoFar c.args.field.now _ _) end c.loop-item.invariant

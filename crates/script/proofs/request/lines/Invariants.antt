@@ -1,9 +1,7 @@
-use Rattle.std.proofs.Common.{length}
-use Rattle.script.proofs.SetReads.{SoFar}
+use Rattle.std.proofs.Common.{length, drop}
+use Rattle.std.specs.List.{slice_split}
+use Rattle.script.proofs.Items.{ReadSoFar, is_comma}
 use Rattle.script.proofs.request.lines.Given as goal
 
 abbrev pub invariant-loop-item : goal.invariant-loop-item
-invariant-loop-item l = SoFar l.field l.lines l.least l.rest
-
-abbrev pub decreases-loop-item : goal.decreases-loop-item
-decreases-loop-item l = length l.rest
+invariant-loop-item l = ReadSoFar l.field l.lines l.least (drop (length l.yielded) (slice_split is_comma l.field))
