@@ -1,6 +1,7 @@
 // What was answered, in print and against the table.
 use crate::rows::Row;
 use sets::refusal::Refusal;
+use shown::{Lines, Tally};
 use std::{fmt, io};
 
 // A set, printed as its members, each after a space.
@@ -9,15 +10,10 @@ pub struct Members(pub u64);
 
 impl fmt::Display for Members {
     fn fmt<W: fmt::Write>(&self, f: &mut fmt::Formatter<W>) -> fmt::Result {
-        if self.0 == 0 {
-            return write!(f, " none");
+        match self.0 {
+            0 => write!(f, " none"),
+            set => write!(f, "{}", Lines(set)),
         }
-        for n in 0u32..64 {
-            if sets::has(self.0, n) {
-                write!(f, " {n}")?;
-            }
-        }
-        Ok(())
     }
 }
 
@@ -40,20 +36,18 @@ impl fmt::Display for Said {
     }
 }
 
-// Prints the cases, and counts how many there were and how many were not answered as the table says.
+// Prints the cases, and counts those that were answered as the table says and those that were not.
 #[derive(Drop)]
 pub struct Report<'a> {
     rt: &'a HostRuntime,
-    cases: u32,
-    failed: u32,
+    tally: Tally,
 }
 
 impl<'a> Report<'a> {
     pub fn new(rt: &'a HostRuntime) -> Report<'a> {
         Report {
             rt,
-            cases: 0,
-            failed: 0,
+            tally: Tally::new(),
         }
     }
 
@@ -64,11 +58,11 @@ impl<'a> Report<'a> {
 
     // Ends the line of a case with its answer.
     fn count<A: Copy + PartialEq + fmt::Display>(&mut self, got: A, expected: A) -> io::Result<()> {
-        self.cases = self.cases.saturating_add(1);
-        if got == expected {
+        let as_expected = got == expected;
+        self.tally.count(as_expected);
+        if as_expected {
             return println!(self.rt; ":{got}");
         }
-        self.failed = self.failed.saturating_add(1);
         println!(self.rt; ":{got}, but expected{expected}")
     }
 
@@ -90,7 +84,6 @@ impl<'a> Report<'a> {
 
     // How many cases there were, and how many failed.
     pub fn end(&self) -> io::Result<()> {
-        let (cases, failed) = (self.cases, self.failed);
-        println!(self.rt; "{cases} cases, {failed} failed")
+        println!(self.rt; "{}", self.tally)
     }
 }

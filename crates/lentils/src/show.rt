@@ -1,6 +1,7 @@
 // How answers are printed.
 use crate::kitchen::Kitchen;
 use sets::refusal::Refusal;
+use sets::walk;
 use std::fmt;
 
 // A refusal: its number, and what it says.
@@ -102,13 +103,11 @@ pub struct Dishes<'a> {
 
 impl fmt::Display for Dishes<'_> {
     fn fmt<W: fmt::Write>(&self, f: &mut fmt::Formatter<W>) -> fmt::Result {
-        for line in 0u32..64 {
-            if sets::has(self.set, line) {
-                let mut buffer = [0; 24];
-                match self.planner.words(line, &mut buffer) {
-                    Ok(found) => write!(f, " {}", Text(&buffer[0..found.len.min(24)]))?,
-                    Err(refusal) => write!(f, " {}", No(refusal))?,
-                }
+        for line in walk::Lines::of(self.set) {
+            let mut buffer = [0; 24];
+            match self.planner.words(line, &mut buffer) {
+                Ok(found) => write!(f, " {}", Text(&buffer[0..found.len.min(24)]))?,
+                Err(refusal) => write!(f, " {}", No(refusal))?,
             }
         }
         Ok(())

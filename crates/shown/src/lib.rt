@@ -3,6 +3,7 @@
 
 ghost use Rattle.std.specs.Prelude.{◌≡◌, ◌+◌, min, cond};
 
+use sets::walk;
 use std::fmt;
 
 // Bytes, each after a space by two hexadecimal digits.
@@ -24,10 +25,8 @@ pub struct Lines(pub u64);
 
 impl fmt::Display for Lines {
     fn fmt<W: fmt::Write>(&self, f: &mut fmt::Formatter<W>) -> fmt::Result {
-        for line in 0u32..64 {
-            if sets::has(self.0, line) {
-                write!(f, " {line}")?;
-            }
+        for line in walk::Lines::of(self.0) {
+            write!(f, " {line}")?;
         }
         Ok(())
     }
