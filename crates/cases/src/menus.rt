@@ -1,12 +1,11 @@
 // Menus, worked out by hand from the rules and the steps.
 use crate::Case;
-use crate::compare::run_all;
-use shown::Tally;
+use crate::trial::Trial;
 use std::io;
 
-pub fn run(rt: &HostRuntime, tally: &mut Tally) -> io::Result<()> {
+pub fn run(trial: &mut Trial<'_>) -> io::Result<()> {
     for cases in [RULES, FACTS, PAGES] {
-        run_all(rt, tally, cases)?;
+        trial.run_all(cases)?;
     }
     Ok(())
 }

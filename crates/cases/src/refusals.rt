@@ -1,12 +1,11 @@
 // Each refusal that a script can meet, and which of two comes first.
 use crate::Case;
-use crate::compare::run_all;
-use shown::Tally;
+use crate::trial::Trial;
 use std::io;
 
-pub fn run(rt: &HostRuntime, tally: &mut Tally) -> io::Result<()> {
+pub fn run(trial: &mut Trial<'_>) -> io::Result<()> {
     for cases in [RANGES, WORDS, NAMED, READINGS, ORDERS, UNLESS] {
-        run_all(rt, tally, cases)?;
+        trial.run_all(cases)?;
     }
     Ok(())
 }

@@ -1,12 +1,11 @@
 // Lines that are damaged, and lines of the right shape that look so.
 use crate::Case;
-use crate::compare::run_all;
-use shown::Tally;
+use crate::trial::Trial;
 use std::io;
 
-pub fn run(rt: &HostRuntime, tally: &mut Tally) -> io::Result<()> {
+pub fn run(trial: &mut Trial<'_>) -> io::Result<()> {
     for cases in [FIELDS, NUMBERS, SETS, BYTES] {
-        run_all(rt, tally, cases)?;
+        trial.run_all(cases)?;
     }
     Ok(())
 }
