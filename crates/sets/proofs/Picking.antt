@@ -1,10 +1,10 @@
 -- The laws of guesses: what a guess picks, and that the guesses at a set and its parts answer to each other, one to one.
-use Rattle.std.proofs.Common.{◌≡◌, ℕ, zero, suc, ◌+◌, ◌-◌, ◌*◌, ◌/◌, ◌%◌, ◌^◌, ◌<◌, min, ◌⊎◌, sym, refl, ap, ◌∙◌, subst, inl, inr, lt_of_lt_of_le, add-zero, mod-eq_of_lt, mul_assoc, mul_comm, add-mul, add_comm, one-mul, pow-suc, zero-mul, div-one, add-one, arith, pow_mono}
-use native.Mathlib.Nat.{mod-one, mod_self, div-eq_of_lt}
+use Rattle.std.proofs.Common.{◌≡◌, ℕ, zero, suc, ◌+◌, ◌*◌, ◌/◌, ◌%◌, ◌^◌, ◌<◌, min, ◌⊎◌, sym, refl, ap, ◌∙◌, subst, inl, inr, mod-eq_of_lt, add_comm, one-mul, pow-suc, zero-mul, div-one, add-one, ⊎_elim, arith}
+use native.Mathlib.Nat.{mod-one}
 use native.Mathlib.Decide.{dec_lt}
-use lib.Bits.{bit_and, bit_or, and_block, and_self}
+use lib.Bits.{bit_and, bit_or}
 use lib.Count.{ones, ones_cat}
-use Rattle.std.proofs.lemmas.Nat.{pow_pos, mod-pow-add, mod_below, or_lt, and_mask, shr-shr, shr_split}
+use Rattle.std.proofs.lemmas.Nat.{pow_pos, mod-pow-add, mod_below, or_lt, and_mask, one_shl, shr-shr}
 use Rattle.sets.specs.Sets.{Has, Within, IsLines}
 use Rattle.sets.specs.Picks.{below, Picks}
 use Rattle.sets.proofs.Lines.{bit, has_or_not, bit_of_or, bit_half, bit_low, has_under, has_below, none_has, single_has, single_only, same_lines}
@@ -94,67 +94,50 @@ put_lt s k d l h =
 
 -- ---- what a guess picks, from the lowest line up
 
--- the lines of u below k are decided: those that g picks are in e, left has the other lines of u, and rest the other bits of g
-pub record Done (u g left rest e k : ℕ) : Type 0 where
-  pub left_is : left ≡ u / 2 ^ k * 2 ^ k
+-- the lines of u below k are decided: those that g picks are in e, and rest has the other bits of g
+pub record Done (u g rest e k : ℕ) : Type 0 where
   pub rest_is : rest ≡ g / 2 ^ below u k
   pub small : e < 2 ^ k
   pub bits : (n : ℕ) → n < k → bit e n ≡ min (bit u n) (bit g (below u n))
 
-pub done_none : (u g : ℕ) → Done u g u g 0 0
+pub done_none : (u g : ℕ) → Done u g g 0 0
 done_none u g = record {
-  left_is = omega (arith, div-one u);
   rest_is = sym (ap (λ x. g / 2 ^ x) (below_none u) ∙ div-one g);
   small = omega arith;
   bits = λ n h. absurd (omega arith);
 }
 
-pub done_all : (u g left rest e k : ℕ) → left ≡ 0 → Done u g left rest e k → Picks u g e
-done_all u g left rest e k z s = record {
-  part = λ n h. omega (arith, s.bits n (has_under k e n s.small h));
-  into = λ n h m. omega (arith, s.bits n (has_under k e n s.small m));
-  back = λ n h m. omega (arith, s.bits n (has_under k u n all h));
+pub done_all : (u g rest e : ℕ) → IsLines u → Done u g rest e 64 → Picks u g e
+done_all u g rest e l s = record {
+  part = λ n h. omega (arith, s.bits n (has_under 64 e n s.small h));
+  into = λ n h m. omega (arith, s.bits n (has_under 64 e n s.small m));
+  back = λ n h m. omega (arith, s.bits n (has_below u n l h));
 }
-  where
-    all : u < 2 ^ k
-    all = omega (arith, s.left_is, shr_split u k, mod_below u (2 ^ k) (pow_pos k))
-
--- the lines of u from k up: line k and those from k + 1 up
-upper : (u k : ℕ) → u / 2 ^ k * 2 ^ k ≡ u / 2 ^ (k + 1) * 2 ^ (k + 1) + bit u k * 2 ^ k
-upper u k =
-    let half : u / 2 ^ k / 2 ≡ u / 2 ^ (k + 1) = shr-shr u k 1 in
-    let twice : 2 * 2 ^ k ≡ 2 ^ (k + 1) = sym (ap (λ x. 2 ^ x) (add-one k) ∙ pow-suc 2 k ∙ mul_comm (2 ^ k) 2) in
-    let whole : u / 2 ^ k ≡ u / 2 ^ (k + 1) * 2 + bit u k = omega (arith, half) in
-    ap (λ x. x * 2 ^ k) whole ∙ add-mul (u / 2 ^ (k + 1) * 2) (bit u k) (2 ^ k)
-    ∙ ap (λ x. x + bit u k * 2 ^ k) (mul_assoc (u / 2 ^ (k + 1)) 2 (2 ^ k) ∙ ap (λ x. u / 2 ^ (k + 1) * x) twice)
 
 -- a line that is not in u is passed over
-done_pass : (u g left rest e k : ℕ) → bit u k ≡ 0 → Done u g left rest e k → Done u g left rest e (k + 1)
-done_pass u g left rest e k z s = record {
-  left_is = s.left_is ∙ upper u k ∙ omega (arith, ap (λ x. x * 2 ^ k) z ∙ zero-mul (2 ^ k));
-  rest_is = s.rest_is ∙ ap (λ x. g / 2 ^ x) (omega (arith, below_more u k));
+pub done_pass : (u g rest e k : ℕ) → (Has u k → ⊥) → Done u g rest e k → Done u g rest e (k + 1)
+done_pass u g rest e k out s = record {
+  rest_is = s.rest_is ∙ ap (λ x. g / 2 ^ x) (omega (arith, below_more u k, zero));
   small = omega (arith, s.small, pow-suc 2 k, ap (λ x. 2 ^ x) (add-one k));
   bits = λ n l. elim (dec_lt n k) [ yes m ↦ s.bits n m | no m ↦ here n (omega arith) (has_or_not e n) ];
 }
   where
+    zero : bit u k ≡ 0
+    zero = ⊎_elim (λ h. absurd (out h)) (λ z. z) (has_or_not u k)
+
     here : (n : ℕ) → n ≡ k → Has e n ⊎ (bit e n ≡ 0) → bit e n ≡ min (bit u n) (bit g (below u n))
     here n i (inl m) = absurd (omega (arith, has_under k e n s.small m))
-    here n i (inr o) = omega (arith, ap (λ x. bit u x) i)
+    here n i (inr o) = omega (arith, ap (λ x. bit u x) i, zero)
 
--- without its lowest line, which is k
-lowest_off : (a k : ℕ) → bit_and (a * 2 ^ (k + 1) + 2 ^ k) (a * 2 ^ (k + 1) + 2 ^ k - 1) ≡ a * 2 ^ (k + 1)
-lowest_off a k =
-    let e : 2 ^ (k + 1) ≡ 2 ^ k * 2 = ap (λ x. 2 ^ x) (add-one k) ∙ pow-suc 2 k in
-    let p = pow_pos k in
-    let less : a * 2 ^ (k + 1) + 2 ^ k - 1 ≡ a * 2 ^ (k + 1) + (2 ^ k - 1) = omega arith in
-    ap (λ x. bit_and (a * 2 ^ (k + 1) + 2 ^ k) x) less ∙ and_block (k + 1) a a (2 ^ k) (2 ^ k - 1) (omega arith) (omega arith)
-    ∙ omega (arith, ap (λ x. x * 2 ^ (k + 1)) (and_self a), and_mask (2 ^ k) k ∙ mod_self (2 ^ k))
+-- a digit that is shifted stays whole
+shifted : (d k : ℕ) → k < 64 → d < 2 → d * 2 ^ k % 2 ^ 64 ≡ d * 2 ^ k
+shifted zero k l dig = ap (λ x. x % 2 ^ 64) (zero-mul (2 ^ k)) ∙ sym (zero-mul (2 ^ k))
+shifted (suc zero) k l dig = one_shl k 64 l ∙ sym (one-mul (2 ^ k))
+shifted (suc (suc d)) k l dig = absurd (omega arith)
 
 -- a line that is in u takes the next bit of g
-done_take : (u g left rest e k : ℕ) → Has u k → Done u g left rest e k
-    → Done u g (bit_and left (left - 1)) (rest / 2) (bit_or e (bit_and rest 1 * (left - bit_and left (left - 1)))) (k + 1)
-done_take u g left rest e k h s = record {
-  left_is = off;
+pub done_take : (u g rest e k : ℕ) → IsLines u → Has u k → Done u g rest e k → Done u g (rest / 2) (bit_or e (bit_and rest 1 * 2 ^ k % 2 ^ 64)) (k + 1)
+done_take u g rest e k lines h s = record {
   rest_is = ap (λ x. x / 2) s.rest_is ∙ shr-shr g (below u k) 1 ∙ ap (λ x. g / 2 ^ x) (omega (arith, below_more u k));
   small = subst (λ (x : ℕ). x < 2 ^ (k + 1)) (sym new) (put_lt e k (bit g (below u k)) s.small dig);
   bits = λ n l. ap (λ x. bit x n) new ∙ elim (dec_lt n k) [ yes m ↦ put_else e k (bit g (below u k)) n dig (λ i. omega arith) ∙ s.bits n m | no m ↦ here n (omega arith) ];
@@ -163,44 +146,16 @@ done_take u g left rest e k h s = record {
     dig : bit g (below u k) < 2
     dig = omega arith
 
-    left_is : left ≡ u / 2 ^ (k + 1) * 2 ^ (k + 1) + 2 ^ k
-    left_is = s.left_is ∙ upper u k ∙ omega (arith, ap (λ x. x * 2 ^ k) h ∙ one-mul (2 ^ k))
-
-    off : bit_and left (left - 1) ≡ u / 2 ^ (k + 1) * 2 ^ (k + 1)
-    off = ap (λ x. bit_and x (x - 1)) left_is ∙ lowest_off (u / 2 ^ (k + 1)) k
-
-    low : left - bit_and left (left - 1) ≡ 2 ^ k
-    low = omega (arith, left_is, off)
-
     first : bit_and rest 1 ≡ bit g (below u k)
     first = and_mask rest 1 ∙ ap (λ x. x % 2) s.rest_is
 
-    new : bit_or e (bit_and rest 1 * (left - bit_and left (left - 1))) ≡ bit_or e (bit g (below u k) * 2 ^ k)
-    new = ap (λ x. bit_or e (x * (left - bit_and left (left - 1)))) first ∙ ap (λ x. bit_or e (bit g (below u k) * x)) low
+    new : bit_or e (bit_and rest 1 * 2 ^ k % 2 ^ 64) ≡ bit_or e (bit g (below u k) * 2 ^ k)
+    new = ap (λ x. bit_or e (x * 2 ^ k % 2 ^ 64)) first ∙ ap (bit_or e) (shifted (bit g (below u k)) k (has_below u k lines h) dig)
 
     here : (n : ℕ) → n ≡ k → bit (bit_or e (bit g (below u k) * 2 ^ k)) n ≡ min (bit u n) (bit g (below u n))
     here n i =
         ap (λ x. bit (bit_or e (bit g (below u k) * 2 ^ k)) x) i ∙ put_here e k (bit g (below u k)) s.small dig
         ∙ omega (arith, ap (λ x. bit u x) i, ap (λ x. bit g (below u x)) i)
-
--- up to the next line of u that is left
-done_next : (m u g left rest e k : ℕ) → u < 2 ^ (k + m) → 0 < left → Done u g left rest e k → (j : ℕ) × Has u j × Done u g left rest e j
-done_next zero u g left rest e k l p s =
-    absurd (omega (arith, s.left_is, ap (λ x. x * 2 ^ k) (div-eq_of_lt (simp add-zero at l)), zero-mul (2 ^ k)))
-done_next (suc m) u g left rest e k l p s =
-    let i : k + suc m ≡ k + 1 + m = omega arith in
-    go (λ z. done_next m u g left rest e (k + 1) (subst (λ (x : ℕ). u < 2 ^ x) i l) p (done_pass u g left rest e k z s)) (has_or_not u k)
-  where
-    go : (bit u k ≡ 0 → (j : ℕ) × Has u j × Done u g left rest e j) → Has u k ⊎ (bit u k ≡ 0) → (j : ℕ) × Has u j × Done u g left rest e j
-    go later (inl h) = (k, h, s)
-    go later (inr z) = later z
-
--- one turn of the loop of `pick`
-pub done_turn : (u g left rest e k : ℕ) → IsLines u → 0 < left → Done u g left rest e k
-    → (j : ℕ) × Done u g (bit_and left (left - 1)) (rest / 2) (bit_or e (bit_and rest 1 * (left - bit_and left (left - 1)))) j
-done_turn u g left rest e k l p s =
-    let n = done_next 64 u g left rest e k (lt_of_lt_of_le l (pow_mono {i = 64} {j = k + 64} (omega arith))) p s in
-    (n.0 + 1, done_take u g left rest e n.0 n.1 n.2)
 
 -- ---- guesses and the sets that they pick
 

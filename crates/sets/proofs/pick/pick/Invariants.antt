@@ -1,9 +1,7 @@
-use Rattle.std.proofs.Common.{ℕ}
 use Rattle.sets.proofs.Picking.{Done}
+use Rattle.sets.proofs.Walking.{Walked}
 use Rattle.sets.proofs.pick.pick.Given as goal
 
-abbrev pub invariant-loop-left : goal.invariant-loop-left
-invariant-loop-left l = (k : ℕ) × Done l.from l.guess l.left l.rest l.picked k
-
-abbrev pub decreases-loop-left : goal.decreases-loop-left
-decreases-loop-left l = l.left
+-- the lines so far are decided
+abbrev pub invariant-loop-line : goal.invariant-loop-line
+invariant-loop-line l = Walked (λ k. Done l.from l.guess l.rest l.picked k) l.from l.line-iterator.left
