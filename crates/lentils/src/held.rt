@@ -106,10 +106,12 @@ impl Day<'_> {
 
     // The answers, in the order of the calls.
     fn tell(&self, menu: u64, kept: &Kept) -> io::Result<()> {
-        let (short_saved, saved) = (kept.short_saved.map(Length), kept.saved.map(Length));
-        println!(self.rt; "save into {SHORT} bytes: {}", Said(short_saved))?;
+        println!(self.rt;
+            "save into {SHORT} bytes: {}",
+            Said(kept.short_saved.map(Length))
+        )?;
         println!(self.rt; "  the buffer:{}", Bytes(&kept.short))?;
-        println!(self.rt; "save into {ROOM} bytes: {}", Said(saved))?;
+        println!(self.rt; "save into {ROOM} bytes: {}", Said(kept.saved.map(Length)))?;
         println!(self.rt; "  the buffer:{}", Bytes(&kept.buffer))?;
         println!(self.rt; "strike line {LENTILS}: {}", done(kept.first_strike))?;
         println!(self.rt; "unrule {LENTILS_RULE}: {}", done(kept.unruled))?;

@@ -6,7 +6,7 @@ use planner::Listing;
 use std::io;
 
 impl Day<'_> {
-    // Reads every menu.
+    // Reads every menu, under a title.
     pub fn menus(&self, title: &str) -> io::Result<()> {
         println!(self.rt; "= {title}")?;
         let guesses = self.planner.guesses();

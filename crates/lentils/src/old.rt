@@ -22,10 +22,10 @@ impl Day<'_> {
     pub fn look_again(&self, record: &[u8]) -> io::Result<()> {
         println!(self.rt; "= The old record")?;
         self.look(record)?;
-        for spoilt in SPOILT {
+        for &Spoilt { at, byte } in SPOILT {
             let mut bytes = record.to_vec(self.rt.alloc())?;
-            if let Some(byte) = bytes.get_mut(spoilt.at) {
-                *byte = spoilt.byte;
+            if let Some(place) = bytes.get_mut(at) {
+                *place = byte;
             }
             self.look(&bytes)?;
         }

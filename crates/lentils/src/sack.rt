@@ -52,11 +52,10 @@ impl Day<'_> {
     pub fn rules(&mut self) -> io::Result<()> {
         println!(self.rt; "= The rules")?;
         for card in CARDS {
-            let answer = done(
-                self.planner
-                    .rule(card.place, card.needs, card.unless, card.gives),
-            );
-            println!(self.rt; "rule {}, {}: {answer}", card.place, card.said)?;
+            let answer = self
+                .planner
+                .rule(card.place, card.needs, card.unless, card.gives);
+            println!(self.rt; "rule {}, {}: {}", card.place, card.said, done(answer))?;
         }
         Ok(())
     }
