@@ -4,8 +4,9 @@ ghost use Rattle.laws.specs.World.{OutHere};
 ghost use Rattle.planner.specs.View.{view, token};
 ghost use Rattle.std.specs.Prelude.{◌≡◌};
 
-use crate::kitchen::{Kitchen, LENTILS, LENTILS_RULE, NO_ROLLS, SOUP_MENU};
-use crate::show::{Dishes, Length, No, Said, done, yes};
+use crate::Day;
+use crate::kitchen::{LENTILS, LENTILS_RULE, NO_ROLLS, SOUP_MENU};
+use crate::show::{Length, No, Said, done, yes};
 use facts::Facts;
 use planner::{Hold, Planner};
 use sets::refusal::Refusal;
@@ -79,44 +80,43 @@ fn give_back<F: Facts>(planner: &mut Planner<F>, hold: Hold)
     planner.release(hold).unwrap()
 }
 
-// Tries to hold what is no menu, then holds the soup menu, and answers its record.
-pub fn serve(rt: &HostRuntime, planner: &mut Kitchen) -> io::Result<Option<Vec<u8>>> {
-    println!(rt; "= A menu is held")?;
-    try_hold(rt, planner, NO_ROLLS)?;
-    try_hold(rt, planner, SOUP_MENU)
-}
+impl Day<'_> {
+    // Tries to hold what is no menu, then holds the soup menu, and answers its record.
+    pub fn hold(&mut self) -> io::Result<Option<Vec<u8>>> {
+        println!(self.rt; "= A menu is held")?;
+        self.try_hold(NO_ROLLS)?;
+        self.try_hold(SOUP_MENU)
+    }
 
-fn try_hold(rt: &HostRuntime, planner: &mut Kitchen, set: u64) -> io::Result<Option<Vec<u8>>> {
-    print!(rt; "hold{}: ", Dishes { planner, set })?;
-    match keep(planner, set, LENTILS, LENTILS_RULE) {
-        Ok(kept) => {
-            println!(rt; "done")?;
-            tell(rt, Dishes { planner, set }, &kept)?;
-            let record = kept.record().map(|bytes| bytes.to_vec(rt.alloc()));
-            Ok(record.transpose()?)
-        }
-        Err(refusal) => {
-            println!(rt; "{}", No(refusal))?;
-            Ok(None)
+    fn try_hold(&mut self, set: u64) -> io::Result<Option<Vec<u8>>> {
+        print!(self.rt; "hold{}: ", self.dishes(set))?;
+        match keep(&mut self.planner, set, LENTILS, LENTILS_RULE) {
+            Ok(kept) => {
+                println!(self.rt; "done")?;
+                self.tell(set, &kept)?;
+                let record = kept.record().map(|bytes| bytes.to_vec(self.rt.alloc()));
+                Ok(record.transpose()?)
+            }
+            Err(refusal) => {
+                println!(self.rt; "{}", No(refusal))?;
+                Ok(None)
+            }
         }
     }
-}
 
-// The answers, in the order of the calls.
-fn tell(rt: &HostRuntime, menu: Dishes<'_>, kept: &Kept) -> io::Result<()> {
-    println!(rt;
-        "save into {SHORT} bytes: {}",
-        Said(kept.short_saved.map(|length| Length(length)))
-    )?;
-    println!(rt; "  the buffer:{}", Bytes(&kept.short))?;
-    println!(rt;
-        "save into {ROOM} bytes: {}",
-        Said(kept.saved.map(|length| Length(length)))
-    )?;
-    println!(rt; "  the buffer:{}", Bytes(&kept.buffer))?;
-    println!(rt; "strike line {LENTILS}: {}", done(kept.first_strike))?;
-    println!(rt; "unrule {LENTILS_RULE}: {}", done(kept.unruled))?;
-    println!(rt; "stands{menu}: {}", yes(kept.stands))?;
-    println!(rt; "strike line {LENTILS}: {}", done(kept.second_strike))?;
-    println!(rt; "release: done")
+    // The answers, in the order of the calls.
+    fn tell(&self, menu: u64, kept: &Kept) -> io::Result<()> {
+        println!(self.rt;
+            "save into {SHORT} bytes: {}",
+            Said(kept.short_saved.map(Length))
+        )?;
+        println!(self.rt; "  the buffer:{}", Bytes(&kept.short))?;
+        println!(self.rt; "save into {ROOM} bytes: {}", Said(kept.saved.map(Length)))?;
+        println!(self.rt; "  the buffer:{}", Bytes(&kept.buffer))?;
+        println!(self.rt; "strike line {LENTILS}: {}", done(kept.first_strike))?;
+        println!(self.rt; "unrule {LENTILS_RULE}: {}", done(kept.unruled))?;
+        println!(self.rt; "stands{}: {}", self.dishes(menu), yes(kept.stands))?;
+        println!(self.rt; "strike line {LENTILS}: {}", done(kept.second_strike))?;
+        println!(self.rt; "release: done")
+    }
 }

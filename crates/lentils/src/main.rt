@@ -1,4 +1,4 @@
-// One sack of red lentils, from the day that it comes in until its line is another dish's: each call with its answer.
+// The day of one sack of red lentils, from its coming in until its line is another dish's: each call with its answer.
 #![tactic(auto)]
 
 mod held;
@@ -8,24 +8,44 @@ mod old;
 mod sack;
 mod show;
 
-use crate::kitchen::soup_brings_rolls;
+use crate::kitchen::{Kitchen, soup_brings_rolls};
+use crate::show::Dishes;
 use planner::Planner;
 use std::io;
 
+// The day: the kitchen whose calls are made, and the runtime that prints their answers.
+#[derive(Drop)]
+pub struct Day<'a> {
+    rt: &'a HostRuntime,
+    planner: Kitchen,
+}
+
+impl<'a> Day<'a> {
+    // It begins with the facts.
+    fn new(rt: &'a HostRuntime) -> io::Result<Day<'a>> {
+        let planner = Planner::new(1, soup_brings_rolls(rt)?);
+        Ok(Day { rt, planner })
+    }
+
+    // The dishes of a set, as they are on their lines now.
+    fn dishes(&self, set: u64) -> Dishes<'_> {
+        let planner = &self.planner;
+        Dishes { planner, set }
+    }
+}
+
 fn main(rt: HostRuntime) -> io::Result<()> {
-    let mut planner = Planner::new(1, soup_brings_rolls(&rt)?);
-    sack::comes_in(&rt, &mut planner)?;
-    sack::rules(&rt, &mut planner)?;
-    println!(rt; "= The menus, one to a page")?;
-    menus::read(&rt, &planner)?;
-    menus::ask(&rt, &planner)?;
-    match held::serve(&rt, &mut planner)? {
+    let mut day = Day::new(&rt)?;
+    day.sack_comes_in()?;
+    day.rules()?;
+    day.menus("The menus, one to a page")?;
+    day.ask()?;
+    match day.hold()? {
         Some(record) => {
-            sack::is_empty(&rt, &mut planner)?;
-            old::look_again(&rt, &planner, &record)?;
+            day.sack_is_empty()?;
+            day.look_again(&record)?;
         }
         None => println!(rt; "no record")?,
     }
-    println!(rt; "= The menus now")?;
-    menus::read(&rt, &planner)
+    day.menus("The menus now")
 }

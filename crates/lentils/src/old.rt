@@ -1,6 +1,5 @@
 // The old record is looked at, as it was saved and with a byte spoilt.
-use crate::kitchen::Kitchen;
-use crate::show::Dishes;
+use crate::Day;
 use laws::looked::Looked;
 use shown::{Bytes, Lines};
 use std::io;
@@ -19,36 +18,37 @@ const SPOILT: &[Spoilt] = &[
     Spoilt { at: 9, byte: 6 },
 ];
 
-pub fn look_again(rt: &HostRuntime, planner: &Kitchen, record: &[u8]) -> io::Result<()> {
-    println!(rt; "= The old record")?;
-    look(rt, planner, record)?;
-    for spoilt in SPOILT {
-        let mut bytes = record.to_vec(rt.alloc())?;
-        if let Some(byte) = bytes.get_mut(spoilt.at) {
-            *byte = spoilt.byte;
+impl Day<'_> {
+    pub fn look_again(&self, record: &[u8]) -> io::Result<()> {
+        println!(self.rt; "= The old record")?;
+        self.look(record)?;
+        for &Spoilt { at, byte } in SPOILT {
+            let mut bytes = record.to_vec(self.rt.alloc())?;
+            if let Some(place) = bytes.get_mut(at) {
+                *place = byte;
+            }
+            self.look(&bytes)?;
         }
-        look(rt, planner, &bytes)?;
+        Ok(())
     }
-    Ok(())
-}
 
-fn look(rt: &HostRuntime, planner: &Kitchen, bytes: &[u8]) -> io::Result<()> {
-    println!(rt; "look at{}", Bytes(bytes))?;
-    match planner.look(bytes) {
-        Ok(Looked { current, gone }) => {
-            say(rt, planner, "current", current)?;
-            say(rt, planner, "gone", gone)
-        }
-        Err(fault) => {
-            let number = fault.number();
-            let place = fault.place();
-            println!(rt; "  refused by {number}, at byte {place}")
+    fn look(&self, bytes: &[u8]) -> io::Result<()> {
+        println!(self.rt; "look at{}", Bytes(bytes))?;
+        match self.planner.look(bytes) {
+            Ok(Looked { current, gone }) => {
+                self.say("current", current)?;
+                self.say("gone", gone)
+            }
+            Err(fault) => {
+                let number = fault.number();
+                let place = fault.place();
+                println!(self.rt; "  refused by {number}, at byte {place}")
+            }
         }
     }
-}
 
-// The lines of a set, and the dishes that are on them now.
-fn say(rt: &HostRuntime, planner: &Kitchen, which: &str, set: u64) -> io::Result<()> {
-    print!(rt; "  {which}: lines{}", Lines(set))?;
-    println!(rt; ", now{}", Dishes { planner, set })
+    // The lines of a set, and the dishes that are on them now.
+    fn say(&self, which: &str, set: u64) -> io::Result<()> {
+        println!(self.rt; "  {which}: lines{}, now{}", Lines(set), self.dishes(set))
+    }
 }

@@ -1,6 +1,6 @@
 // The sack comes in, the rules are written, and at last another dish takes its line.
-use crate::kitchen::{Kitchen, LENTILS, LENTILS_RULE, ROLLS, SOUP, SOUP_RULE, TRIFLE, TRIFLE_RULE};
-use crate::menus::list;
+use crate::Day;
+use crate::kitchen::{LENTILS, LENTILS_RULE, ROLLS, SOUP, SOUP_RULE, TRIFLE, TRIFLE_RULE};
 use crate::show::{No, Number, Place, Said, Text, done};
 use book::rows::Wording;
 use std::io;
@@ -38,63 +38,67 @@ const CARDS: &[Card] = &[
     },
 ];
 
-pub fn comes_in(rt: &HostRuntime, planner: &mut Kitchen) -> io::Result<()> {
-    println!(rt; "= The sack comes in")?;
-    write(rt, planner, LENTILS, "red-lentils")?;
-    write(rt, planner, SOUP, "soup")?;
-    write(rt, planner, TRIFLE, "trifle")?;
-    list(rt, planner, 0)?;
-    write(rt, planner, ROLLS, "rolls")?;
-    words(rt, planner, LENTILS)
-}
-
-pub fn rules(rt: &HostRuntime, planner: &mut Kitchen) -> io::Result<()> {
-    println!(rt; "= The rules")?;
-    for card in CARDS {
-        let answer = done(planner.rule(card.place, card.needs, card.unless, card.gives));
-        println!(rt; "rule {}, {}: {answer}", card.place, card.said)?;
+impl Day<'_> {
+    pub fn sack_comes_in(&mut self) -> io::Result<()> {
+        println!(self.rt; "= The sack comes in")?;
+        self.write(LENTILS, "red-lentils")?;
+        self.write(SOUP, "soup")?;
+        self.write(TRIFLE, "trifle")?;
+        self.list(0)?;
+        self.write(ROLLS, "rolls")?;
+        self.words(LENTILS)
     }
-    Ok(())
-}
 
-// Strikes the lentils once no rule names them, and gives their line away.
-pub fn is_empty(rt: &HostRuntime, planner: &mut Kitchen) -> io::Result<()> {
-    println!(rt; "= The sack is empty")?;
-    strike(rt, planner, LENTILS)?;
-    let answer = done(planner.unrule(SOUP_RULE));
-    println!(rt; "unrule {SOUP_RULE}: {answer}")?;
-    strike(rt, planner, LENTILS)?;
-    write(rt, planner, LENTILS, "plum-trifle")?;
-    words(rt, planner, LENTILS)?;
-    // the number that the lentils had, and the new one
-    seek(rt, planner, 1)?;
-    seek(rt, planner, 5)
-}
-
-fn write(rt: &HostRuntime, planner: &mut Kitchen, line: u32, words: &str) -> io::Result<()> {
-    let number = Said(planner.write(line, words.as_bytes()).map(|n| Number(n)));
-    println!(rt; "write {words} on line {line}: {number}")
-}
-
-fn strike(rt: &HostRuntime, planner: &mut Kitchen, line: u32) -> io::Result<()> {
-    let answer = done(planner.strike(line));
-    println!(rt; "strike line {line}: {answer}")
-}
-
-fn seek(rt: &HostRuntime, planner: &Kitchen, number: u32) -> io::Result<()> {
-    let place = Place(planner.where_is(number));
-    println!(rt; "where is number {number}: {place}")
-}
-
-// Copies the words of a line into a buffer of dots, and prints the buffer.
-fn words(rt: &HostRuntime, planner: &Kitchen, line: u32) -> io::Result<()> {
-    let mut buffer = [b'.'; 16];
-    print!(rt; "words of line {line}: ")?;
-    match planner.words(line, &mut buffer) {
-        Ok(Wording { len, number }) => {
-            println!(rt; "{len} bytes, number {number}")?;
-            println!(rt; "  the buffer: {}", Text(&buffer))
+    pub fn rules(&mut self) -> io::Result<()> {
+        println!(self.rt; "= The rules")?;
+        for card in CARDS {
+            let answer = self
+                .planner
+                .rule(card.place, card.needs, card.unless, card.gives);
+            println!(self.rt; "rule {}, {}: {}", card.place, card.said, done(answer))?;
         }
-        Err(refusal) => println!(rt; "{}", No(refusal)),
+        Ok(())
+    }
+
+    // Strikes the lentils once no rule names them, and gives their line away.
+    pub fn sack_is_empty(&mut self) -> io::Result<()> {
+        println!(self.rt; "= The sack is empty")?;
+        self.strike(LENTILS)?;
+        let answer = done(self.planner.unrule(SOUP_RULE));
+        println!(self.rt; "unrule {SOUP_RULE}: {answer}")?;
+        self.strike(LENTILS)?;
+        self.write(LENTILS, "plum-trifle")?;
+        self.words(LENTILS)?;
+        // the number that the lentils had, and the new one
+        self.seek(1)?;
+        self.seek(5)
+    }
+
+    fn write(&mut self, line: u32, words: &str) -> io::Result<()> {
+        let number = Said(self.planner.write(line, words.as_bytes()).map(Number));
+        println!(self.rt; "write {words} on line {line}: {number}")
+    }
+
+    fn strike(&mut self, line: u32) -> io::Result<()> {
+        let answer = done(self.planner.strike(line));
+        println!(self.rt; "strike line {line}: {answer}")
+    }
+
+    fn seek(&self, number: u32) -> io::Result<()> {
+        let place = Place(self.planner.where_is(number));
+        println!(self.rt; "where is number {number}: {place}")
+    }
+
+    // Copies the words of a line into a buffer of dots, and prints the buffer.
+    fn words(&self, line: u32) -> io::Result<()> {
+        let mut buffer = [b'.'; 16];
+        print!(self.rt; "words of line {line}: ")?;
+        match self.planner.words(line, &mut buffer) {
+            Ok(Wording { len, number }) => {
+                println!(self.rt; "{len} bytes, number {number}")?;
+                println!(self.rt; "  the buffer: {}", Text(&buffer))
+            }
+            Err(refusal) => println!(self.rt; "{}", No(refusal)),
+        }
     }
 }

@@ -1,5 +1,6 @@
 // How answers are printed.
 use crate::kitchen::Kitchen;
+use book::rows::{MOST_BYTES, Wording};
 use sets::refusal::Refusal;
 use sets::walk;
 use std::fmt;
@@ -104,9 +105,9 @@ pub struct Dishes<'a> {
 impl fmt::Display for Dishes<'_> {
     fn fmt<W: fmt::Write>(&self, f: &mut fmt::Formatter<W>) -> fmt::Result {
         for line in walk::Lines::of(self.set) {
-            let mut buffer = [0; 24];
+            let mut buffer = [0; MOST_BYTES];
             match self.planner.words(line, &mut buffer) {
-                Ok(found) => write!(f, " {}", Text(&buffer[0..found.len.min(24)]))?,
+                Ok(Wording { len, .. }) => write!(f, " {}", Text(&buffer[..len]))?,
                 Err(refusal) => write!(f, " {}", No(refusal))?,
             }
         }
