@@ -87,11 +87,7 @@ impl<'a, F: Facts> Tries<'a, F> {
     {
         let guess = sets::pick::pick(self.unless, u64::from(number));
         let set = self.close(guess);
-        if set & self.unless == guess {
-            Some(set)
-        } else {
-            None
-        }
+        (set & self.unless == guess).then_some(set)
     }
 
     // Tries the guesses from `from` on, and writes each set found to the next place. It stops when the page is full or no guess is left.

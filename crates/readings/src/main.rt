@@ -74,13 +74,13 @@ fn read<F: Facts + Drop>(
 // What the arguments ask for.
 struct Asked {
     times: u32,
-    only: Option<usize>,
+    only: Option<u32>,
 }
 
 fn arguments(rt: &HostRuntime) -> anyhow::Result<Asked> {
     let mut words = env::args(rt)?.skip(1);
     let times = words.next().map(|word| word.parse::<u32>()).transpose()?;
-    let only = words.next().map(|word| word.parse::<usize>()).transpose()?;
+    let only = words.next().map(|word| word.parse::<u32>()).transpose()?;
     Ok(Asked {
         times: times.unwrap_or(1),
         only,
@@ -124,7 +124,7 @@ const BOOKS: &[Book] = &[
 fn main(rt: HostRuntime) -> anyhow::Result<()> {
     let Asked { times, only } = arguments(&rt)?;
     for (n, book) in BOOKS.iter().enumerate() {
-        if only.is_none_or(|only| only == n) {
+        if only.is_none_or(|only| only as usize == n) {
             match book {
                 Book::Pairs(pairs) => read(&rt, "pairs over bare facts", bare_book(*pairs), times)?,
                 Book::Rules => read(&rt, "40 rules over clauses", clause_book(), times)?,

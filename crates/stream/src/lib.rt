@@ -13,6 +13,9 @@ use std::alloc::{AllocError, Global};
 // The longest script that is read, in bytes.
 pub const LONGEST: usize = 8_192;
 
+// The most bytes that the answer to a bad line takes.
+const BAD_ROOM: usize = 31;
+
 // The number of the planner that a script asks.
 const PLANNER: u32 = 1;
 
@@ -30,7 +33,7 @@ pub fn run(heap: Global, input: &[u8], out: &mut Vec<u8>) -> Result<(), AllocErr
 fn refuse(out: &mut Vec<u8>) -> Result<(), AllocError>
     ensures { OnOk result (Appended (λ text. text ≡ bad_text 8192) out.old.items out.new.items) }
 {
-    let mut buffer = [0; 31];
+    let mut buffer = [0; BAD_ROOM];
     let end = bad(&mut buffer, LONGEST);
     out.extend_from_slice(&buffer[..end])
 }

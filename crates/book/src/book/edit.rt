@@ -58,7 +58,7 @@ impl Book {
         if number > LAST_NUMBER {
             return Err(Refusal::NumbersSpent);
         }
-        let words = ArrayVec::try_from(words).map_err(|_| Refusal::BadWords)?;
+        let words = ArrayVec::try_from(words).unwrap();
         self.tables.lines[line as usize] = Some(LineRow { number, words });
         self.tables.next = number + 1;
         Ok(number)
