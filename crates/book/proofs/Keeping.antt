@@ -237,7 +237,7 @@ held_has t line held = seen_hold t.holds held.0 line held.1 held.2 held.3
 abbrev relined : Tables → ℕ → List (Option Statement) → Contents
 relined t next lines = record { lines = lines; rules = t.rules; holds = λ n. out_at t.holds n; next = next; next_hold = t.next_hold }
 
-pub seen_written : (t : Tables) (k next : ℕ) (row : LineRow) (words : List ℕ) → row.words.items ≡ words → (relined t next (map (option_map said) (set t.lines k (Some row))) ≡ relined t next (set (map (option_map said) t.lines) k (Some (record { number = row.number; words = words }))))
+pub seen_written : (t : Tables) (k next : ℕ) (row : LineRow) (words : List ℕ) → row.words ≡ words → (relined t next (map (option_map said) (set t.lines k (Some row))) ≡ relined t next (set (map (option_map said) t.lines) k (Some (record { number = row.number; words = words }))))
 seen_written t k next row words e =
     ap (relined t next) (map-set (option_map said) t.lines k (Some row) ∙ ap (λ ws. set (map (option_map said) t.lines) k (Some (record { number = row.number; words = ws }))) e)
 

@@ -5,7 +5,6 @@ use lib.Bits.{bit_or}
 use Rattle.std.proofs.lemmas.List.{get_or-set_same, get_or-set_other, get_or_past, set_past, drop_more}
 use Rattle.std.specs.Bool.{Decides, MatchBool}
 use Rattle.std.specs.Option.{option_map, MatchOption}
-use Rattle.std.specs.Array.{AllOfLen}
 use Rattle.std.specs.List.{position, position_or_len, AllWithin, HoldsAt}
 use Rattle.std.proofs.lemmas.Bool.Decides.{Decides-eqb, Decides-ltb, not_from_Decides}
 use Rattle.std.proofs.lemmas.List.Sums.{passes_at_first, fails_before_first}
@@ -84,17 +83,6 @@ numbered_first {X = X} number n rows = by (position (numbered_test number n) row
     by None all = λ i e. elim (dec_lt i (length rows)) [ yes lt ↦ lacks (at rows i) (all i lt) e | no past ↦ no_some (sym (ap (option_map number) (get_or_past rows i None (omega arith))) ∙ e) ]
     by (Some i) here = (here.0, has (at rows i) here.1)
 
--- a table of so many rows that are all empty
-nones : {X : Type 0} (rows : List (Option X)) (n : ℕ) → length rows ≡ n → ((i : ℕ) → i < n → at rows i ≡ None) → rows ≡ replicate n None
-nones [] zero long each = refl
-nones [] (suc n) long each = absurd (omega arith)
-nones (row ∷ rows) zero long each = absurd (omega arith)
-nones (row ∷ rows) (suc n) long each =
-    ap (λ o. o ∷ rows) (each zero (omega arith)) ∙ ap (λ rest. None ∷ rest) (nones rows n (omega arith) (λ i l. each (suc i) (omega arith)))
-
-pub all_none : {X : Type 0} (rows : List (Option X)) (n : ℕ) → AllOfLen (λ o. o ≡ None) rows n → rows ≡ replicate n None
-all_none rows n all = nones rows n all.long (λ i l. all.at i None l)
-
 -- a place whose row has a number is filled
 pub full_from_number : {X : Type 0} (number : X → ℕ) (rows : List (Option X)) (i n : ℕ) → option_map number (at rows i) ≡ Some n → Full rows i
 full_from_number {X = X} number rows i n e = by (at rows i) refl
@@ -123,27 +111,6 @@ some_mapped f (Some x) = refl
 
 pub full_map : {X Y : Type 0} (f : X → Y) (rows : List (Option X)) (j : ℕ) → is_some (at (map (option_map f) rows) j) ≡ is_some (at rows j)
 full_map f rows j = ap is_some (at_map f rows j) ∙ some_mapped f (at rows j)
-
--- ---- a loop that gathers the filled places
-
--- the set has the filled places below k, and no other
-abbrev pub FullBelow : {X : Type 0} → List (Option X) → ℕ → ℕ → Type 0
-FullBelow rows k s = (n : ℕ) → (Has s n → (n < k) × Full rows n) × ((n < k) × Full rows n → Has s n)
-
-module _ {X : Type 0} (rows : List (Option X)) (k s : ℕ) (below : FullBelow rows k s) where
-  -- the next place is filled, and t is the set with it
-  pub full_more : (t : ℕ) → Full rows k → Within s t → Has t k → ((n : ℕ) → Has t n → Has s n ⊎ (n ≡ k)) → FullBelow rows (k + 1) t
-  full_more t full up here only n = (
-    λ h. ⊎_elim (λ old. let o = (below n).0 old in (omega arith, o.1)) (λ e. (omega arith, subst (Full rows) (sym e) full)) (only n h),
-    λ h. elim (ℕ_discrete n k) [ yes e ↦ subst (Has t) (sym e) here | no other ↦ up n ((below n).1 (omega (arith, h.0), h.1)) ],
-  )
-
-  -- the next place is empty
-  pub full_same : at rows k ≡ None → FullBelow rows (k + 1) s
-  full_same none n = (
-    λ h. let o = (below n).0 h in (omega arith, o.1),
-    λ h. elim (ℕ_discrete n k) [ yes e ↦ absurd (not_full rows n (ap (at rows) e ∙ none) h.1) | no other ↦ (below n).1 (omega (arith, h.0), h.1) ],
-  )
 
 -- ---- the lines of all rows together
 

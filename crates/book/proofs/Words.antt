@@ -1,7 +1,7 @@
 -- What a book shows: at most 24 bytes of words, copied byte by byte, numbers of one line each, from 1 on, and rules on written lines.
-use Rattle.std.proofs.Common.{◌≡◌, ℕ, Bor, ◌<◌, ◌≤◌, length, Some, None, Option, sym, refl, ap, ◌∙◌, subst, arith}
+use Rattle.std.proofs.Common.{◌≡◌, ℕ, ◌<◌, ◌≤◌, length, Some, None, Option, sym, refl, ap, ◌∙◌, subst, arith}
 use Rattle.std.proofs.lemmas.List.{length-map}
-use Rattle.std.specs.Option.{option_map, option_copied, IfSome}
+use Rattle.std.specs.Option.{option_map}
 use Rattle.sets.specs.Sets.{Has}
 use Rattle.book.specs.Rows.{at, Full, lines_named}
 use Rattle.book.specs.Contents.{Statement}
@@ -22,11 +22,6 @@ words_few b n s e = by (at b.tables.lines n) refl (sym (at_map said b.tables.lin
         let few = b.worded n row here in
         let same = ap (λ x. length x.words) (some_same f) in
         omega arith
-
--- a row that was found has at most 24 bytes of words
-pub worded_at : (b : Book) (n : ℕ) (found : Option (Bor LineRow)) → option_copied found ≡ at b.tables.lines n → IfSome found (λ row. length row.now.words.items ≤ 24)
-worded_at b n None e = tt
-worded_at b n (Some row) e = b.worded n row.now (sym e)
 
 -- only one line has a number
 pub where_one : (b : Book) (number line other : ℕ) → number_at (view b) line ≡ Some number → number_at (view b) other ≡ Some number → line ≡ other

@@ -1,22 +1,16 @@
 -- The calls on a book: on which grounds each is refused, what it answers, and what an accepted one changes.
-use Rattle.std.specs.Prelude.{◌≡◌, ℕ, ◌+◌, ◌<◌, ◌≤◌, ◌⊎◌, List, [], ◌∷◌, ◌++◌, length, drop, Some, None, Option, Result, MatchOption, ◌≢◌, bit_or, count_ones, slice_set}
+use Rattle.std.specs.Prelude.{◌≡◌, ℕ, ◌+◌, ◌<◌, ◌⊎◌, List, [], ◌∷◌, ◌++◌, length, drop, Some, None, Option, Result, MatchOption, ◌≢◌, bit_or, count_ones, slice_set}
 use Rattle.std.specs.Option.{option_map}
-use Rattle.std.specs.List.{AllByRecursion}
 use Rattle.sets.specs.Sets.{Has}
 use Rattle.sets.specs.Grounds.{Ground, Answered}
 use Rattle.sets.specs.declared.refusal.Refusal.{Refusal}
 use Rattle.sets.specs.declared.refusal.Refusal.TheVariants.{OutOfRange, Filled, BadWords, NumbersSpent, Empty, Held, Named, TooManyUnless, BufferTooShort}
+pub use Rattle.book.specs.Words.{GoodWords}
 use Rattle.book.specs.Rows.{at, Full, Vacant, AnyVacant, lines_named, rule_lines, unless_lines}
 use Rattle.book.specs.Kept.{last_number, most_unless}
 use Rattle.book.specs.Contents.{Contents, Statement, Held as OutHold}
 use Rattle.book.specs.declared.rows.Rule.{Rule}
 use Rattle.book.specs.declared.rows.Wording.{Wording}
-
--- words are 1 to 24 bytes, each from 33 to 126
-pub record GoodWords (words : List ℕ) : Type 0 where
-  pub some : 1 ≤ length words
-  pub few : length words ≤ 24
-  pub printable : AllByRecursion (λ b. (33 ≤ b) × (b ≤ 126)) words
 
 -- a rule names the line
 abbrev pub IsNamed : Contents → ℕ → Type 0

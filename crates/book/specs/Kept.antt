@@ -29,7 +29,7 @@ OnLines lines rows filled = (n : ℕ) → Has (union lines rows) n → Full fill
 
 -- the words of a statement lie within its 24 bytes
 abbrev pub Worded : List (Option LineRow) → Type 0
-Worded rows = (i : ℕ) (a : LineRow) → at rows i ≡ Some a → length a.words.items ≤ 24
+Worded rows = (i : ℕ) (a : LineRow) → at rows i ≡ Some a → length a.words ≤ 24
 
 -- at most so many lines stand in unless-sets
 abbrev pub FewUnless : List (Option Rule) → Type 0

@@ -8,7 +8,7 @@ use Rattle.book.specs.declared.rows.Tables.{Tables}
 use Rattle.book.specs.declared.book.Book.{Book}
 
 abbrev pub said : LineRow → Statement
-said row = record { number = row.number; words = row.words.items }
+said row = record { number = row.number; words = row.words }
 
 -- the hold of this number, in a table where no two have one number
 abbrev pub out_at : List (Option HoldRow) → ℕ → Option Held

@@ -10,7 +10,6 @@ mod holds;
 mod read;
 mod saved;
 mod search;
-mod words;
 
 #[derive(Drop)]
 pub struct Book {

@@ -3,3 +3,4 @@
 
 pub mod book;
 pub mod rows;
+pub mod text;

@@ -1,15 +1,12 @@
 // The rows of the book's tables.
 
-use arrayvec::ArrayVec;
-
-// The most bytes that words take.
-pub const MOST_BYTES: usize = 24;
+use crate::text::Words;
 
 // The statement on a line: its number and its words.
-#[derive(Drop)]
+#[derive(Clone, Copy)]
 pub struct LineRow {
     pub number: u32,
-    pub words: ArrayVec<u8, MOST_BYTES>,
+    pub words: Words,
 }
 
 // A rule: with the lines of `needs` in, the line `gives`, unless a line of `unless` is in.

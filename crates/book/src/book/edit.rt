@@ -5,9 +5,9 @@ ghost use Rattle.book.specs.Contents.{empty_book};
 ghost use Rattle.book.specs.Rows.{lines_named};
 ghost use Rattle.book.specs.View.{view};
 
-use crate::book::{Book, words};
+use crate::book::Book;
 use crate::rows::{LineRow, Rule, Tables};
-use arrayvec::ArrayVec;
+use crate::text::Words;
 use facts::Facts;
 use sets::refusal::Refusal;
 
@@ -32,7 +32,7 @@ impl Book {
     {
         Book {
             tables: Tables {
-                lines: Default::default(),
+                lines: [None; 64],
                 rules: [None; 40],
                 holds: [None; 16],
                 next: 1,
@@ -51,14 +51,11 @@ impl Book {
         if self.has_statement(line) {
             return Err(Refusal::Filled);
         }
-        if !words::good(words) {
-            return Err(Refusal::BadWords);
-        }
+        let words = Words::new(words)?;
         let number = self.tables.next;
         if number > LAST_NUMBER {
             return Err(Refusal::NumbersSpent);
         }
-        let words = ArrayVec::try_from(words).unwrap();
         self.tables.lines[line as usize] = Some(LineRow { number, words });
         self.tables.next = number + 1;
         Ok(number)

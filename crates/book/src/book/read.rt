@@ -1,10 +1,10 @@
 // What a book answers about itself.
-ghost use Rattle.std.specs.Prelude.{◌≡◌, ℕ, ◌≤◌, Decides, IfSome, length};
+ghost use Rattle.std.specs.Prelude.{◌≡◌, ℕ, ◌≤◌, Decides, Some, length};
 ghost use Rattle.book.specs.Calls.{IsHeld, IsNamed, SayWords, Where};
 ghost use Rattle.book.specs.Rows.{AnyVacant, Full, FullOf, GivesLines, union, lines_named, unless_lines, at};
 ghost use Rattle.book.specs.View.{view, said};
 ghost use Rattle.sets.specs.Sets.{Has};
-ghost use Rattle.std.specs.Option.{option_map, option_copied};
+ghost use Rattle.std.specs.Option.{option_map};
 
 use crate::book::Book;
 use crate::book::search::place_of;
@@ -130,11 +130,12 @@ impl Book {
             return Err(Refusal::OutOfRange);
         }
         let row = self.statement(line).ok_or(Refusal::Empty)?;
-        let len = row.words.len();
+        let words = row.words.as_slice();
+        let len = words.len();
         if buffer.len() < len {
             return Err(Refusal::BufferTooShort);
         }
-        buffer[..len].copy_from_slice(row.words.as_slice());
+        buffer[..len].copy_from_slice(words);
         Ok(Wording {
             len,
             number: row.number,
@@ -157,10 +158,10 @@ impl Book {
     }
 
     // The statement of a line, if it has one.
-    pub fn statement(&self, line: u32) -> Option<&LineRow>
-        ensures said { option_map said (option_copied result) ≡ at (view self.now).lines line }
-        ensures worded { IfSome result (λ row. length row.now.words.items ≤ 24) }
+    pub fn statement(&self, line: u32) -> Option<LineRow>
+        ensures said { option_map said result ≡ at (view self.now).lines line }
+        ensures worded { (row : LineRow) → result ≡ Some row → length row.words ≤ 24 }
     {
-        self.tables.lines.get(line as usize)?.as_ref()
+        *self.tables.lines.get(line as usize)?
     }
 }

@@ -18,7 +18,7 @@ invariant_of-self g c =
       next_in_range = b.next_in_range;
       distinct = distinct_cleared (λ a. a.number) t.lines k b.numbers_distinct;
       given = each_cleared (λ a. (1 ≤ a.number) × (a.number < t.next)) t.lines k b.numbers_given;
-      worded = each_cleared (λ a. length a.words.items ≤ 24) t.lines k b.worded;
+      worded = each_cleared (λ a. length a.words ≤ 24) t.lines k b.worded;
     })
     (rules_relined t.lines _ t.rules (rules_kept b) (λ n h. full_cleared t.lines k n (λ e. free (subst (Has _) e h))))
     (holds_relined t.lines _ t.holds t.next_hold (holds_kept b) (λ n h. full_cleared t.lines k n (λ e. loose (held_from t k b.holds_distinct (subst (Has _) e h)))))

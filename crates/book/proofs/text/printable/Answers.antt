@@ -4,7 +4,7 @@ use Rattle.std.proofs.lemmas.Bool.Decides.{Decides-at, Decides-and, Decides-not,
 use Rattle.std.proofs.lemmas.Iterator.{YieldsList-from_slice}
 use Rattle.std.proofs.lemmas.Iterator.Search.{all_from_yields_List}
 use Rattle.std.proofs.ByRecursion.{Decides-by_and}
-use Rattle.book.proofs.book.words.printable.Goals as goal
+use Rattle.book.proofs.text.printable.Goals as goal
 
 abbrev test : ℕ → Bool
 test b = not (ltb b 33) && not (ltb 126 b)
