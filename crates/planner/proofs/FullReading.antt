@@ -1,7 +1,8 @@
 -- A full reading on its way: one page more.
-use Rattle.std.proofs.Common.{◌≡◌, ℕ, zero, suc, ◌+◌, ◌-◌, ◌<◌, ◌≤◌, List, [], ◌∷◌, ◌++◌, map, length, take, drop, Ok, sym, refl, ap, ◌∙◌, subst, subst₂, arith}
+use Rattle.std.proofs.Common.{◌≡◌, ℕ, zero, suc, ◌+◌, ◌-◌, ◌<◌, ◌≤◌, List, [], ◌∷◌, ◌++◌, map, length, get_or, take, drop, Ok, sym, refl, ap, ◌∙◌, subst, subst₂, arith}
 use borrow.Rule.Slice.PartMut.{put_mid, same_len_mid}
-use Rattle.std.proofs.lemmas.List.{get_or-take, append-nil, length-drop, length-take-le, drop-drop}
+use Rattle.std.proofs.Math.ListN.{get_or-append}
+use Rattle.std.proofs.lemmas.List.{get_or-take, get_or-append-add, append-nil, length-drop, length-take-le, drop-drop}
 use Rattle.std.proofs.lemmas.Slice.{take-put_mid, drop-put_mid}
 use Rattle.sets.specs.Sets.{IsLines}
 use Rattle.facts.specs.Meaning.{Meaning}
@@ -13,6 +14,7 @@ use Rattle.laws.specs.declared.listing.Listing.{Listing}
 use Rattle.laws.proofs.ReadingParts.{Stretch, page_stretch, stretch_none, stretch_join, stretch_all}
 use Rattle.laws.proofs.Readings.{later, run_join, calls_join, chained_join, pages_join}
 use Rattle.planner.specs.Complete.{Added, Read, ByLists, Complete}
+use Rattle.planner.specs.Tries.{Appended}
 
 -- ---- sets behind the places filled
 
@@ -28,6 +30,22 @@ added_pasted before count k sets room long = record {
   front = take-put_mid count (count + k - count) before sets (count + k) (omega arith) (omega arith);
   stays = drop-put_mid count (count + k - count) before sets (count + k) (omega arith) (omega arith) (omega arith);
 }
+
+-- place by place
+pub appended_from_added : (before : List ℕ) (count : ℕ) (sets after : List ℕ) (r : ℕ) → count + length sets ≤ length before → Added before count sets after r → Appended before count sets (length sets) after r
+appended_from_added before count sets after r room at = record {
+  filled = at.filled;
+  same_length = at.same_length;
+  old = λ i lt. front i (omega (arith, at.filled)) ∙ get_or-append (take count before) sets 0 i (omega (arith, long)) ∙ get_or-take count before i 0 lt;
+  new = λ j lt. front (count + j) (omega (arith, at.filled)) ∙ ap (λ n. get_or (take count before ++ sets) (n + j) 0) (sym long) ∙ get_or-append-add (take count before) sets j 0;
+  stays = subst (λ n. drop n after ≡ drop n before) at.filled at.stays;
+}
+  where
+    long : length (take count before) ≡ count
+    long = length-take-le count before (omega arith)
+
+    front : (i : ℕ) → i < r → get_or after i 0 ≡ get_or (take count before ++ sets) i 0
+    front i lt = sym (get_or-take r after i 0 lt) ∙ ap (λ xs. get_or xs i 0) at.front
 
 -- the front places that are exactly the menus, told of the whole buffer
 pub complete_from : (m : Meaning) (w : World) (before after : List ℕ) (count : ℕ) → count ≤ length before → length after ≡ length before → drop count after ≡ drop count before

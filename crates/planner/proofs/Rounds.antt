@@ -1,7 +1,9 @@
 -- Rounds over rules: what one more rule adds, and that a try ends with the smallest closed set.
-use Rattle.std.proofs.Common.{◌≡◌, ℕ, ◌+◌, ◌<◌, ◌≤◌, eqb, ◌⊎◌, List, length, is_some, Some, Decides, Option, sym, ap, ◌∙◌, subst, arith}
+use Rattle.std.proofs.Common.{◌≡◌, ℕ, ◌+◌, ◌<◌, ◌≤◌, eqb, ◌⊎◌, Bool, true, false, List, length, is_some, Some, Decides, Option, MatchOption, sym, refl, ap, ◌∙◌, subst, arith}
 use native.Mathlib.Decide.{ℕ_discrete}
 use lib.Bits.{bit_and}
+use Rattle.std.specs.Bool.{then_some}
+use Rattle.std.proofs.lemmas.Bool.{false≢true}
 use Rattle.std.proofs.lemmas.Bool.Decides.{Decides-eqb, Decides-like}
 use Rattle.sets.specs.Sets.{Has, Within, IsLines, Smallest}
 use Rattle.sets.specs.Picks.{Picks}
@@ -81,3 +83,9 @@ found_only m rules unless g guess t s picked least found =
     let same-guess : found.guess ≡ guess = picks_same unless g found.guess guess found.picked picked in
     let same_set : s ≡ t = smallest_same (Closed m rules guess) s t (subst (λ e. Smallest (Closed m rules e) s) same-guess found.least) least in
     ap (λ x. bit_and x unless) (sym same_set) ∙ found.agrees ∙ same-guess
+
+-- a try finds its set, if that agrees with its guess
+pub found_if : (m : Meaning) (rules : List (Option Rule)) (unless g guess t : ℕ) (agrees : Bool) → Picks unless g guess → Smallest (Closed m rules guess) t → Decides agrees (bit_and t unless ≡ guess)
+    → MatchOption (then_some agrees t) ((s : ℕ) → Found m rules unless g s → ⊥) (Found m rules unless g)
+found_if m rules unless g guess t true picked least tells = record { guess = guess; picked = picked; least = least; agrees = tells.0 refl }
+found_if m rules unless g guess t false picked least tells = λ s found. false≢true (tells.1 (found_only m rules unless g guess t s picked least found))

@@ -27,6 +27,14 @@ pub record Reading (F : ℕ → ℕ → Type 0) (from total : ℕ) (before after
   pub no_place : length before ≡ 0 → next ≡ from
   pub full : 0 < count → count ≡ length before → F (next - 1) (slice_index after (count - 1))
 
+-- The first k of the sets found stand behind the `count` places filled; r places are filled then, and all others stay.
+pub record Appended (before : List ℕ) (count : ℕ) (found : List ℕ) (k : ℕ) (after : List ℕ) (r : ℕ) : Type 0 where
+  pub filled : r ≡ count + k
+  pub same_length : length after ≡ length before
+  pub old : (i : ℕ) → i < count → slice_index after i ≡ slice_index before i
+  pub new : (j : ℕ) → j < k → slice_index after (count + j) ≡ slice_index found j
+  pub stays : drop (count + k) after ≡ drop (count + k) before
+
 -- It stopped where there was no further guess or no free place.
 pub record Stopped (F : ℕ → ℕ → Type 0) (from total : ℕ) (before after : List ℕ) (count next : ℕ) : Type 0 where
   pub reading : Reading F from total before after count next

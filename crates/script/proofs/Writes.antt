@@ -82,9 +82,6 @@ wrote_then {b} {m} {a} {t} {u} {at} {r} {s} p q = record { kept = kept_then p.ke
 pub prints_as : {was is : Printer} {t u : List ℕ} → t ≡ u → Prints was t is → Prints was u is
 prints_as {was} {is} e p = let P : List ℕ → Type 0 = λ x. Prints was x is in subst P e p
 
-pub prints_at : {was is end : Printer} {t : List ℕ} → end ≡ is → Prints was t is → Prints was t end
-prints_at {was} {is} {end} {t} e p = let P : Printer → Type 0 = λ x. Prints was t x in subst P (sym e) p
-
 pub prints_none : (p : Printer) → Prints p [] p
 prints_none p = record { same = refl; wrote = wrote_none p.buffer.now p.at }
 
