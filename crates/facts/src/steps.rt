@@ -1,6 +1,6 @@
 // Facts told by steps, over facts of any kind.
-ghost use Rattle.std.specs.Prelude.{All};
-ghost use Rattle.facts.specs.Steps.{IsStep};
+ghost use Rattle.std.specs.Prelude.{◌≤◌, length, All};
+ghost use Rattle.facts.specs.Steps.{IsStep, most_steps};
 
 use crate::step::Step;
 use arrayvec::ArrayVec;
@@ -14,5 +14,6 @@ pub const MOST_STEPS: usize = 32;
 pub struct Steps<F> {
     below: F,
     rows: ArrayVec<Step, MOST_STEPS>,
+    ghost few: { length rows.items ≤ most_steps },
     ghost steps_fit: { All IsStep rows.items },
 }

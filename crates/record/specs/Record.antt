@@ -61,7 +61,7 @@ Fit next least e = (least ≤ e.line) × (e.line < 64) × GivenOut next e
 
 -- the entries that a list has
 abbrev pub listed : Entries → List Entry
-listed x = x.0.items
+listed x = x.items.items
 
 -- Yes: there was room, and the entry is the last now. No: there were 64 already, and all is as it was.
 abbrev pub Pushes : List Entry → Entry → List Entry → Bool → Type 0

@@ -1,4 +1,6 @@
 // The entries of a saved menu: at most as many as there are lines.
+ghost use Rattle.std.specs.Prelude.{◌≤◌, length};
+
 use arrayvec::ArrayVec;
 
 mod list;
@@ -13,4 +15,7 @@ pub struct Entry {
 }
 
 #[derive(Drop)]
-pub struct Entries(ArrayVec<Entry, MOST_ENTRIES>);
+pub struct Entries {
+    items: ArrayVec<Entry, MOST_ENTRIES>,
+    ghost few: { length items.items ≤ 64 },
+}

@@ -9,19 +9,21 @@ impl Entries {
     pub fn new() -> Entries
         ensures { listed result ≡ [] }
     {
-        Entries(ArrayVec::new())
+        Entries {
+            items: ArrayVec::new(),
+        }
     }
 
     // One entry more, at the end, and true; if there are 64 already, false, and all stays as it was.
     pub fn push(&mut self, entry: Entry) -> bool
         ensures { Pushes (listed self.old) entry (listed self.new) result }
     {
-        self.0.try_push(entry).is_ok()
+        self.items.try_push(entry).is_ok()
     }
 
     pub fn as_slice(&self) -> &[Entry]
         ensures { result.now ≡ listed self.now }
     {
-        self.0.as_slice()
+        self.items.as_slice()
     }
 }
