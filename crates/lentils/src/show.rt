@@ -1,6 +1,7 @@
 // How answers are printed.
 use crate::kitchen::Kitchen;
-use book::rows::{MOST_BYTES, Wording};
+use book::rows::Wording;
+use book::text::MOST_BYTES;
 use sets::refusal::Refusal;
 use sets::walk;
 use std::fmt;

@@ -1,8 +1,8 @@
 -- A full reading on its way: one page more.
-use Rattle.std.proofs.Common.{◌≡◌, ℕ, zero, suc, ◌+◌, ◌-◌, ◌<◌, ◌≤◌, List, [], ◌∷◌, ◌++◌, map, length, get_or, take, drop, Ok, sym, refl, ap, ◌∙◌, subst, subst₂, arith}
+use Rattle.std.proofs.Common.{◌≡◌, ℕ, zero, suc, ◌+◌, ◌-◌, ◌<◌, ◌≤◌, List, [], ◌∷◌, ◌++◌, map, length, get_or, take, drop, set, Ok, sym, refl, ap, ◌∙◌, subst, subst₂, arith}
 use borrow.Rule.Slice.PartMut.{put_mid, same_len_mid}
 use Rattle.std.proofs.Math.ListN.{get_or-append}
-use Rattle.std.proofs.lemmas.List.{get_or-take, get_or-append-add, append-nil, length-drop, length-take-le, drop-drop}
+use Rattle.std.proofs.lemmas.List.{get_or-take, get_or-append-add, append-nil, append_assoc, length_push, length-set, length-drop, length-take-le, take_more_set, drop-set-lt, drop-drop}
 use Rattle.std.proofs.lemmas.Slice.{take-put_mid, drop-put_mid}
 use Rattle.sets.specs.Sets.{IsLines}
 use Rattle.facts.specs.Meaning.{Meaning}
@@ -21,6 +21,23 @@ use Rattle.planner.specs.Tries.{Appended}
 -- lists that are alike from place n on are so from a later place on
 drop_later : (n k : ℕ) (xs ys : List ℕ) → drop n xs ≡ drop n ys → drop (n + k) xs ≡ drop (n + k) ys
 drop_later n k xs ys same = sym (drop-drop k n xs) ∙ ap (drop k) same ∙ drop-drop k n ys
+
+module _ (before : List ℕ) (count : ℕ) where
+  pub added_none : Added before count [] before count
+  added_none = record {
+    filled = omega arith;
+    same_length = refl;
+    front = sym (append-nil (take count before));
+    stays = refl;
+  }
+
+  pub added_more : (sets after : List ℕ) (r x : ℕ) → r < length after → Added before count sets after r → Added before count (sets ++ x ∷ []) (set after r x) (r + 1)
+  added_more sets after r x room at = record {
+    filled = omega (arith, length_push sets x);
+    same_length = length-set after r x ∙ at.same_length;
+    front = take_more_set after r x room ∙ ap (λ front. front ++ x ∷ []) at.front ∙ append_assoc (take count before) sets (x ∷ []);
+    stays = drop-set-lt (r + 1) after r x (omega arith) ∙ drop_later r 1 after before at.stays;
+  }
 
 -- sets pasted behind the places filled
 pub added_pasted : (before : List ℕ) (count k : ℕ) (sets : List ℕ) → count + k ≤ length before → length sets ≡ k → Added before count sets (put_mid count (count + k - count) before sets) (count + k)
