@@ -40,8 +40,8 @@ fn yes(atom: u32, word: usize) -> u64
 fn met(clause: Clause, word: usize) -> u64
     ensures { WordOf (Meets clause) word result }
 {
-    let first = clause.first() as u64;
-    let second = clause.second() as u64;
+    let first = u64::from(clause.first());
+    let second = u64::from(clause.second());
     let mut rows = 0;
     for atom in 0..ATOMS {
         let yes = yes(atom, word);

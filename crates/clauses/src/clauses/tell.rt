@@ -1,5 +1,6 @@
 // Making facts of clauses, adding a clause, giving a line its sense.
 ghost use Rattle.std.specs.Prelude.{◌≡◌, ℕ, ◌<◌, true, ◌≢◌, [], is_some, Some, None, Decides};
+ghost use Rattle.clauses.specs.Rows.{IsClause, atom_count};
 ghost use Rattle.clauses.specs.Told.{PutClause, PutSense, SameSenses, clauses_of, sense_of};
 
 use crate::clause::Clause;
@@ -14,9 +15,8 @@ impl Clauses {
         ensures clauses { clauses_of result ≡ [] }
         ensures senses { (n : ℕ) → sense_of result n ≡ None }
     {
-        let told = ArrayVec::new();
         Clauses {
-            told,
+            told: ArrayVec::new(),
             met: Rows::every(),
             senses: [None; 64],
         }
@@ -51,7 +51,8 @@ impl Clauses {
 
     // Writes the sense of a line.
     fn put_sense(&mut self, line: u32, clause: Clause)
-        requires { line < 64 }
+        requires line { line < 64 }
+        requires clause { IsClause atom_count clause }
         ensures line { sense_of self.new line ≡ Some clause }
         ensures others { (n : ℕ) → n ≢ line → sense_of self.new n ≡ sense_of self.old n }
         ensures clauses { clauses_of self.new ≡ clauses_of self.old }

@@ -1,4 +1,4 @@
-use Rattle.std.proofs.Common.{◌≡◌, ◌^◌, ◌<◌, Decides, sym, subst, arith}
+use Rattle.std.proofs.Common.{◌≡◌, ◌^◌, ◌<◌, ◌∙◌, Decides, sym, subst, arith}
 use Rattle.std.proofs.lemmas.Bool.Decides.{not_from_Decides}
 use Rattle.sets.specs.Sets.{Has}
 use Rattle.clauses.specs.Words.{WordOf}
@@ -12,8 +12,8 @@ loop-atom-preserved c =
     let clause = c.args.clause in
     let a = c.loop-atom.atom in
     let w = c.args.word in
-    let first : Decides c.has.result (Has clause.first a) = subst (λ s. Decides c.has.result (Has s a)) c.first-first.ensures.value c.has.ensures in
-    let second : Decides c.has-in-loop-atom.result (Has clause.second a) = subst (λ s. Decides c.has-in-loop-atom.result (Has s a)) c.second-second.ensures.value c.has-in-loop-atom.ensures in
+    let first : Decides c.has.result (Has clause.first a) = subst (λ s. Decides c.has.result (Has s a)) (c.from-first.ensures ∙ c.first.ensures.value) c.has.ensures in
+    let second : Decides c.has-in-loop-atom.result (Has clause.second a) = subst (λ s. Decides c.has-in-loop-atom.result (Has s a)) (c.from-second.ensures ∙ c.second.ensures.value) c.has-in-loop-atom.ensures in
     let yes : WordOf (MeetsYes clause a) w c.if-has.rows =
     elim c.if-has.branch [
       | then-has v ↦ subst (WordOf (MeetsYes clause a) w) (sym v.rows-is) (word_more (MeetsBelow clause a) (λ row. Has row a) (Has clause.first a) w _ _ c.loop-atom.invariant (first.0 v.if-has.true) c.yes-yes.ensures)
@@ -32,7 +32,7 @@ returns c =
     let clause = c.args.clause in
     let done : c.loop-atom.atom ≡ atom_count = omega arith in
     let fits : IsClause atom_count clause = (
-      subst (λ s. s < 2 ^ atom_count) c.first-first.ensures.value c.first-first.ensures.fits,
-      subst (λ s. s < 2 ^ atom_count) c.second-second.ensures.value c.second-second.ensures.fits,
+      subst (λ s. s < 2 ^ atom_count) c.first.ensures.value c.first.ensures.fits,
+      subst (λ s. s < 2 ^ atom_count) c.second.ensures.value c.second.ensures.fits,
     ) in
     below_all clause atom_count c.args.word c.loop-atom.rows fits (subst (λ k. WordOf (MeetsBelow clause k) c.args.word c.loop-atom.rows) done c.loop-atom.invariant)
