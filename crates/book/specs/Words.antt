@@ -12,8 +12,8 @@ pub record GoodWords (words : List ℕ) : Type 0 where
   pub few : length words ≤ 24
   pub printable : AllByRecursion (λ b. (33 ≤ b) × (b ≤ 126)) words
 
-abbrev pub words_grounds : List ℕ → List Ground
-words_grounds words = record { gives = BadWords; when = GoodWords words → ⊥ } ∷ []
+abbrev pub text_grounds : List ℕ → List Ground
+text_grounds words = record { gives = BadWords; when = GoodWords words → ⊥ } ∷ []
 
 -- the words, with zeros behind them to 24 bytes
 abbrev pub padded : List ℕ → List ℕ

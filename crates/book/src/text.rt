@@ -1,6 +1,6 @@
 // Words: 1 to 24 bytes, each from 33 to 126.
 ghost use Rattle.std.specs.Prelude.{◌≡◌, ◌≤◌, length, Decides};
-ghost use Rattle.book.specs.Words.{GoodWords, words_grounds};
+ghost use Rattle.book.specs.Words.{GoodWords, text_grounds};
 ghost use Rattle.sets.specs.Grounds.{Answered};
 ghost use Rattle.std.specs.List.{AllByRecursion};
 
@@ -39,7 +39,7 @@ impl Model for Words {
 impl Words {
     // These bytes, if they may stand on a line.
     pub fn new(words: &[u8]) -> Result<Words, Refusal>
-        ensures { Answered (words_grounds words.now) (λ w. w ≡ words.now) (Unit {0}) result }
+        ensures { Answered (text_grounds words.now) (λ w. w ≡ words.now) (Unit {0}) result }
     {
         if !good(words) {
             return Err(Refusal::BadWords);

@@ -16,10 +16,11 @@ pub struct Case(pub &'static str, pub &'static [u8], pub &'static [u8]);
 
 fn main(rt: HostRuntime) -> io::Result<()> {
     let mut trial = Trial::new(&rt);
-    shapes::run(&mut trial)?;
-    refusals::run(&mut trial)?;
-    runs::run(&mut trial)?;
-    menus::run(&mut trial)?;
+    for tables in [shapes::ALL, refusals::ALL, runs::ALL, menus::ALL] {
+        for cases in tables {
+            trial.run_all(cases)?;
+        }
+    }
     longest::run(&mut trial)?;
     trial.end()
 }

@@ -1,14 +1,7 @@
 // Menus, worked out by hand from the rules and the steps.
 use crate::Case;
-use crate::trial::Trial;
-use std::io;
 
-pub fn run(trial: &mut Trial<'_>) -> io::Result<()> {
-    for cases in [RULES, FACTS, PAGES] {
-        trial.run_all(cases)?;
-    }
-    Ok(())
-}
+pub const ALL: &[&[Case]] = &[RULES, FACTS, PAGES];
 
 // Rules alone.
 const RULES: &[Case] = &[

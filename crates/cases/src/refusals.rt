@@ -1,14 +1,7 @@
 // Each refusal that a script can meet, and which of two comes first.
 use crate::Case;
-use crate::trial::Trial;
-use std::io;
 
-pub fn run(trial: &mut Trial<'_>) -> io::Result<()> {
-    for cases in [RANGES, WORDS, NAMED, READINGS, ORDERS, UNLESS] {
-        trial.run_all(cases)?;
-    }
-    Ok(())
-}
+pub const ALL: &[&[Case]] = &[RANGES, WORDS, NAMED, READINGS, ORDERS, UNLESS];
 
 // The calls that a line or a place is out of range for, or filled already.
 const RANGES: &[Case] = &[

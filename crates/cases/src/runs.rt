@@ -1,14 +1,7 @@
 // How lines follow one another.
 use crate::Case;
-use crate::trial::Trial;
-use std::io;
 
-pub fn run(trial: &mut Trial<'_>) -> io::Result<()> {
-    for cases in [ENDS, PLACES, STEPS, NUMBERED] {
-        trial.run_all(cases)?;
-    }
-    Ok(())
-}
+pub const ALL: &[&[Case]] = &[ENDS, PLACES, STEPS, NUMBERED];
 
 // Where a script ends.
 const ENDS: &[Case] = &[

@@ -1,14 +1,7 @@
 // Lines that are damaged, and lines of the right shape that look so.
 use crate::Case;
-use crate::trial::Trial;
-use std::io;
 
-pub fn run(trial: &mut Trial<'_>) -> io::Result<()> {
-    for cases in [FIELDS, NUMBERS, SETS, BYTES] {
-        trial.run_all(cases)?;
-    }
-    Ok(())
-}
+pub const ALL: &[&[Case]] = &[FIELDS, NUMBERS, SETS, BYTES];
 
 // Spaces, first characters and fields.
 const FIELDS: &[Case] = &[

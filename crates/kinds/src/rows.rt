@@ -39,6 +39,17 @@ impl Row for StepRow {
     }
 }
 
+// The atoms of a clause: one of the first is so, or one of the second is not.
+#[derive(Drop)]
+struct Atoms(u32, u32);
+
+impl fmt::Display for Atoms {
+    fn fmt<W: fmt::Write>(&self, f: &mut fmt::Formatter<W>) -> fmt::Result {
+        let (yes, no) = (Members(u64::from(self.0)), Members(u64::from(self.1)));
+        write!(f, "yes{yes} or no{no}")
+    }
+}
+
 // `clause(first, second)` and its answer.
 #[derive(Clone, Copy)]
 pub struct ClauseRow(pub u32, pub u32, pub Result<(), u32>);
@@ -52,8 +63,8 @@ impl ClauseRow {
 impl fmt::Display for ClauseRow {
     fn fmt<W: fmt::Write>(&self, f: &mut fmt::Formatter<W>) -> fmt::Result {
         let ClauseRow(first, second, _) = *self;
-        let (yes, no) = (Members(first as u64), Members(second as u64));
-        write!(f, "clause yes{yes} or no{no}")
+        let atoms = Atoms(first, second);
+        write!(f, "clause {atoms}")
     }
 }
 
@@ -78,8 +89,8 @@ impl SenseRow {
 impl fmt::Display for SenseRow {
     fn fmt<W: fmt::Write>(&self, f: &mut fmt::Formatter<W>) -> fmt::Result {
         let SenseRow(line, first, second, _) = *self;
-        let (yes, no) = (Members(first as u64), Members(second as u64));
-        write!(f, "sense {line} yes{yes} or no{no}")
+        let atoms = Atoms(first, second);
+        write!(f, "sense {line} {atoms}")
     }
 }
 

@@ -1,4 +1,4 @@
--- One turn of a try, and what a reading of guesses finds.
+-- The steps of a list: one turn of a try, and what a reading of guesses finds.
 use Rattle.std.specs.Prelude.{◌≡◌, ℕ, ◌+◌, ◌-◌, ◌<◌, ◌≤◌, List, [], ◌∷◌, length, take, drop, Option, slice_index}
 use Rattle.facts.specs.Meaning.{Meaning}
 use Rattle.facts.specs.Closure.{Passed}

@@ -65,6 +65,8 @@ abbrev pub Same : Result Entries Fault → List Entry → Type 0
 Same (Ok x) es = listed x ≡ es
 Same (Err f) es = ⊥
 
+-- ---- the reader's first step
+
 -- the bytes in front are right, `rest` is what comes behind them, and the length's low byte is a byte
 pub record Opened (bytes rest : List ℕ) : Type 0 where
   pub right_length : RightLength bytes
