@@ -1,9 +1,11 @@
 -- What the fields of a line are, if the line is the text of a fit request.
-use Rattle.std.proofs.Common.{◌≡◌, ℕ, ◌-◌, ◌<◌, List, [], ◌∷◌, ◌++◌, length, get_or, take, drop, codes, decimal, Option, sym, ap, ◌∙◌, subst, arith}
+use Rattle.std.proofs.Common.{◌≡◌, ℕ, ◌-◌, ◌<◌, List, [], ◌∷◌, ◌++◌, ◌≢◌, length, get_or, take, drop, codes, decimal, Some, None, Option, sym, ap, ◌∙◌, subst, arith}
 use Rattle.std.proofs.lemmas.List.{take_all}
+use Rattle.std.specs.Option.{IsSomeAnd, MatchOption}
 use Rattle.script.proofs.Parsing.{decimal_lacks, lacks_not, one_parting}
 use Rattle.script.proofs.SetReads.{set_lacks}
-use Rattle.script.specs.Reading.{Fit, Lacks, Parts, ReadsRequest, Short, request_text, set_text}
+use Rattle.script.specs.Reading.{Fit, Lacks, Parts, ReadsNumber, ReadsRequest, Short, request_text, set_text}
+use Rattle.sets.proofs.Rows.{no_some}
 use Rattle.sets.specs.Sets.{IsLines}
 use Rattle.script.specs.declared.request.Request.{Request}
 use Rattle.script.specs.declared.request.Request.TheVariants.{Step, Write, Strike, Rule, Unrule, List as Listing}
@@ -84,3 +86,22 @@ at_front x (a ∷ b ∷ rest) r long first second h =
     let whole : take (length (a ∷ b ∷ rest) - 2) rest ≡ rest = take_all _ rest (omega arith) in
     let e : x ∷ 32 ∷ take (length (a ∷ b ∷ rest) - 2) rest ≡ a ∷ b ∷ rest = cc in
     subst P e h
+
+-- Fields after a byte that asks for a number alone are a number, and the request is what the byte makes of it.
+
+pub number_fields : (k : ℕ) (fields : List ℕ) (request : Request) → (k ≢ 43) × (k ≢ 58) × (k ≢ 62) → Fit request → k ∷ 32 ∷ fields ≡ request_text request → (n : ℕ) × Short n × (fields ≡ decimal n)
+number_fields k fields (Step needs gives) other fit e = absurd (other.2 (ap (λ x. get_or x 0 0) e))
+number_fields k fields (Write line words) other fit e = absurd (other.0 (ap (λ x. get_or x 0 0) e))
+number_fields k fields (Strike line) other fit e = (line, fit, ap (drop 2) e)
+number_fields k fields (Rule place needs unless gives) other fit e = absurd (other.1 (ap (λ x. get_or x 0 0) e))
+number_fields k fields (Unrule place) other fit e = (place, fit, ap (drop 2) e)
+number_fields k fields (Listing from) other fit e = (from, fit, ap (drop 2) e)
+
+pub by_number : {Made : ℕ → Request → Type 0} (k : ℕ) (make : ℕ → Request) (fields : List ℕ) (number : Option ℕ) (r : Option Request) → (k ≢ 43) × (k ≢ 58) × (k ≢ 62) → ((n : ℕ) → Short n → Fit (make n) × (k ∷ 32 ∷ decimal n ≡ request_text (make n))) → ReadsNumber fields number → MatchOption number (r ≡ None) (λ n. IsSomeAnd r (Made n)) → ((n : ℕ) (q : Request) → Made n q → q ≡ make n) → ReadsRequest (k ∷ 32 ∷ fields) r
+by_number k make fields None None other asks read made same = λ request fit e. let f = number_fields k fields request other fit e in read f.0 f.1 f.2
+by_number k make fields None (Some q) other asks read made same = absurd (no_some (sym made))
+by_number k make fields (Some n) None other asks read made same = absurd made
+by_number k make fields (Some n) (Some q) other asks read made same =
+    let P : Request → Type 0 = λ x. Fit x × (k ∷ 32 ∷ fields ≡ request_text x) in
+    let a = asks n read.0 in
+    subst P (sym (same n q made)) (a.0, ap (λ x. k ∷ 32 ∷ x) read.1 ∙ a.1)

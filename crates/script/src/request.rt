@@ -41,10 +41,10 @@ pub fn read(line: &[u8]) -> Option<Request<'_>>
     match char::from(*first) {
         '>' => step(fields),
         '+' => write(fields),
-        '-' => strike(fields),
+        '-' => number(fields).map(|line| Request::Strike { line }),
         ':' => rule(fields),
-        '/' => unrule(fields),
-        '?' => list(fields),
+        '/' => number(fields).map(|place| Request::Unrule { place }),
+        '?' => number(fields).map(|from| Request::List { from }),
         _ => None,
     }
 }
@@ -72,14 +72,6 @@ fn write(fields: &[u8]) -> Option<Request<'_>>
     })
 }
 
-fn strike(fields: &[u8]) -> Option<Request<'_>>
-    ensures { ReadsRequest (codes "- " ++ fields.now) result }
-{
-    Some(Request::Strike {
-        line: number(fields)?,
-    })
-}
-
 fn rule(fields: &[u8]) -> Option<Request<'_>>
     ensures { ReadsRequest (codes ": " ++ fields.now) result }
 {
@@ -91,22 +83,6 @@ fn rule(fields: &[u8]) -> Option<Request<'_>>
         needs: set(needs)?,
         unless: set(unless)?,
         gives: number(gives)?,
-    })
-}
-
-fn unrule(fields: &[u8]) -> Option<Request<'_>>
-    ensures { ReadsRequest (codes "/ " ++ fields.now) result }
-{
-    Some(Request::Unrule {
-        place: number(fields)?,
-    })
-}
-
-fn list(fields: &[u8]) -> Option<Request<'_>>
-    ensures { ReadsRequest (codes "? " ++ fields.now) result }
-{
-    Some(Request::List {
-        from: number(fields)?,
     })
 }
 
