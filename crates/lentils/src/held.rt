@@ -24,7 +24,7 @@ const FILLER: u8 = 0xEE;
 
 // What was answered while a menu was held. Nothing is printed before the hold is given back.
 #[derive(Drop)]
-struct Kept {
+pub struct Kept {
     short: [u8; SHORT],
     short_saved: Result<usize, Refusal>,
     buffer: [u8; ROOM],
@@ -37,7 +37,7 @@ struct Kept {
 
 impl Kept {
     // The record, if the menu was saved.
-    fn record(&self) -> Option<&[u8]> {
+    pub fn record(&self) -> Option<&[u8]> {
         self.buffer.get(..self.saved.ok()?)
     }
 }
@@ -81,21 +81,20 @@ fn give_back<F: Facts>(planner: &mut Planner<F>, hold: Hold)
 }
 
 impl Day<'_> {
-    // Tries to hold what is no menu, then holds the soup menu, and answers its record.
-    pub fn hold(&mut self) -> io::Result<Option<Vec<u8>>> {
+    // Tries to hold what is no menu, then holds the soup menu, and answers what was answered meanwhile.
+    pub fn hold(&mut self) -> io::Result<Option<Kept>> {
         println!(self.rt; "= A menu is held")?;
         self.try_hold(NO_ROLLS)?;
         self.try_hold(SOUP_MENU)
     }
 
-    fn try_hold(&mut self, set: u64) -> io::Result<Option<Vec<u8>>> {
+    fn try_hold(&mut self, set: u64) -> io::Result<Option<Kept>> {
         print!(self.rt; "hold{}: ", self.dishes(set))?;
         match keep(&mut self.planner, set, LENTILS, LENTILS_RULE) {
             Ok(kept) => {
                 println!(self.rt; "done")?;
                 self.tell(set, &kept)?;
-                let record = kept.record().map(|bytes| bytes.to_vec(self.rt.alloc()));
-                Ok(record.transpose()?)
+                Ok(Some(kept))
             }
             Err(refusal) => {
                 println!(self.rt; "{}", No(refusal))?;

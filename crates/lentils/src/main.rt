@@ -8,6 +8,7 @@ mod old;
 mod sack;
 mod show;
 
+use crate::held::Kept;
 use crate::kitchen::{Kitchen, soup_brings_rolls};
 use crate::show::Dishes;
 use planner::Planner;
@@ -40,10 +41,11 @@ fn main(rt: HostRuntime) -> io::Result<()> {
     day.rules()?;
     day.menus("The menus, one to a page")?;
     day.ask()?;
-    match day.hold()? {
+    let kept = day.hold()?;
+    match kept.as_ref().and_then(Kept::record) {
         Some(record) => {
             day.sack_is_empty()?;
-            day.look_again(&record)?;
+            day.look_again(record)?;
         }
         None => println!(rt; "no record")?,
     }

@@ -49,6 +49,7 @@ impl Day<'_> {
 
     // The lines of a set, and the dishes that are on them now.
     fn say(&self, which: &str, set: u64) -> io::Result<()> {
-        println!(self.rt; "  {which}: lines{}, now{}", Lines(set), self.dishes(set))
+        print!(self.rt; "  {which}: lines{}", Lines(set))?;
+        println!(self.rt; ", now{}", self.dishes(set))
     }
 }

@@ -63,18 +63,13 @@ impl Session {
     fn ask(&mut self, request: Request<'_>, place: usize, printer: &mut Printer<'_>)
         ensures { Said (SessionAsks self.old place request.entry self.new) printer.old printer.new }
     {
-        match mem::replace(&mut self.state, State::Collecting(Steps::new(Bare))) {
-            State::Planning(mut planner) => {
-                plan(&mut planner, request, place, printer);
-                self.state = State::Planning(planner);
-            }
-            State::Collecting(mut steps) => match request {
-                Request::Step { needs, gives } => {
-                    printer.done(steps.step(needs, gives));
-                    self.state = State::Collecting(steps);
-                }
+        match &mut self.state {
+            State::Planning(planner) => plan(planner, request, place, printer),
+            State::Collecting(steps) => match request {
+                Request::Step { needs, gives } => printer.done(steps.step(needs, gives)),
                 _ => {
-                    let mut planner = Planner::new(self.number, steps);
+                    let facts = mem::replace(steps, Steps::new(Bare));
+                    let mut planner = Planner::new(self.number, facts);
                     plan(&mut planner, request, place, printer);
                     self.state = State::Planning(planner);
                 }

@@ -1,7 +1,7 @@
 // A whole script is answered, line by line.
 #![tactic(auto)]
 
-ghost use Rattle.std.specs.Prelude.{◌≡◌, OnOk};
+ghost use Rattle.std.specs.Prelude.{◌≡◌, ◌≤◌, length, OnOk};
 ghost use Rattle.script.specs.Answering.{LineAnswer};
 ghost use Rattle.script.specs.Texts.{bad_text};
 ghost use Rattle.stream.specs.Runs.{Answered, Answers, Appended};
@@ -44,7 +44,7 @@ fn answer_lines(heap: Global, input: &[u8], out: &mut Vec<u8>) -> Result<(), All
 {
     let mut speaker = Speaker {
         session: Session::new(PLANNER),
-        buffer: Box::new(heap, [0; ROOM])?,
+        buffer: vec![in heap; 0u8; ROOM]?,
     };
     let mut from = 0;
     while let Some(Bounds { end, next }) = next_line(input, from) {
@@ -58,7 +58,8 @@ fn answer_lines(heap: Global, input: &[u8], out: &mut Vec<u8>) -> Result<(), All
 #[derive(Drop)]
 struct Speaker {
     session: Session,
-    buffer: Box<[u8; ROOM]>,
+    buffer: Vec<u8>,
+    ghost room: { 32768 ≤ length buffer.items },
 }
 
 impl Speaker {
@@ -66,7 +67,7 @@ impl Speaker {
     fn answer(&mut self, line: &[u8], place: usize, out: &mut Vec<u8>) -> Result<(), AllocError>
         ensures { OnOk result (Appended (LineAnswer self.old.session line.now place self.new.session) out.old.items out.new.items) }
     {
-        let end = self.session.answer(line, place, &mut *self.buffer).unwrap();
+        let end = self.session.answer(line, place, &mut self.buffer).unwrap();
         out.extend_from_slice(&self.buffer[..end])
     }
 }

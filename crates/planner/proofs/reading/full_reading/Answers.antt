@@ -1,10 +1,8 @@
-use Rattle.std.proofs.Common.{◌≡◌, ◌+◌, ◌-◌, length, take, rules, refl, ap, ◌∙◌, subst, arith}
-use borrow.Rule.Slice.PartMut.{put_mid}
+use Rattle.std.proofs.Common.{◌≡◌, length, take, refl, ◌∙◌, arith}
 use Rattle.std.proofs.lemmas.List.{length-take-le}
 use Rattle.laws.proofs.ReadingParts.{page_rises}
-use Rattle.planner.specs.Complete.{Added}
 use Rattle.planner.specs.View.{view, facts_of}
-use Rattle.planner.proofs.FullReading.{added_pasted, to_none, to_more, to_all, complete_from}
+use Rattle.planner.proofs.FullReading.{to_none, to_more, to_all, complete_from}
 use Rattle.planner.proofs.reading.full_reading.Goals as goal
 
 pub loop-from-init : goal.loop-from-init
@@ -20,14 +18,11 @@ loop-from-preserved g c =
     let step = c.in_ok-found.ensures in
     let listed = step.1.1 in
     let at = c.loop-from.invariant.2 in
-    let pasted : c.copy_from_slice.new.self ≡ take answer.count page = search rules in
-    let long : length (take answer.count page) ≡ answer.count = length-take-le answer.count page (omega arith) in
-    let added = subst (λ sets. Added c.loop-from.menus c.loop-from.count sets (put_mid c.loop-from.count (c.loop-from.count + answer.count - c.loop-from.count) c.loop-from.menus c.copy_from_slice.new.self) (c.loop-from.count + answer.count)) pasted
-    (added_pasted c.loop-from.menus c.loop-from.count answer.count c.copy_from_slice.new.self (omega arith) (ap length pasted ∙ long)) in (
+    let long : length (take answer.count page) ≡ answer.count = length-take-le answer.count page (omega arith) in (
       listed.same_length ∙ c.loop-from.invariant.0,
       omega arith,
-      to_more (g.F.Facts.meaning (facts_of p)) (view p) c.guesses-total.ensures.lines c.args.menus.now c.loop-from.menus c.loop-from.count c.loop-from.from c.loop-from.page page answer _ (c.loop-from.count + answer.count)
-          (omega arith) step added at,
+      to_more (g.F.Facts.meaning (facts_of p)) (view p) c.guesses-total.ensures.lines c.args.menus.now c.loop-from.menus c.loop-from.count c.loop-from.from c.loop-from.page page answer c.append-count.new.menus c.append-count.result
+          (omega arith) step (c.append-count.ensures.added (omega (arith, long))) at,
     )
 
 pub loop-from-smaller : goal.loop-from-smaller
