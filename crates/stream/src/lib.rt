@@ -44,7 +44,9 @@ fn answer_lines(heap: Global, input: &[u8], out: &mut Vec<u8>) -> Result<(), All
 {
     let mut speaker = Speaker {
         session: Session::new(PLANNER),
-        buffer: vec![in heap; 0u8; ROOM]?,
+        buffer: Buffer {
+            bytes: vec![in heap; 0u8; ROOM]?,
+        },
     };
     let mut from = 0;
     while let Some(Bounds { end, next }) = next_line(input, from) {
@@ -54,12 +56,18 @@ fn answer_lines(heap: Global, input: &[u8], out: &mut Vec<u8>) -> Result<(), All
     Ok(())
 }
 
-// A session, and a buffer with room for each of its answers.
+// A buffer with room for each answer of a session.
+#[derive(Drop)]
+struct Buffer {
+    bytes: Vec<u8>,
+    ghost room: { 32768 ≤ length bytes.items },
+}
+
+// A session, and a buffer for its answers.
 #[derive(Drop)]
 struct Speaker {
     session: Session,
-    buffer: Vec<u8>,
-    ghost room: { 32768 ≤ length buffer.items },
+    buffer: Buffer,
 }
 
 impl Speaker {
@@ -67,7 +75,10 @@ impl Speaker {
     fn answer(&mut self, line: &[u8], place: usize, out: &mut Vec<u8>) -> Result<(), AllocError>
         ensures { OnOk result (Appended (LineAnswer self.old.session line.now place self.new.session) out.old.items out.new.items) }
     {
-        let end = self.session.answer(line, place, &mut self.buffer).unwrap();
-        out.extend_from_slice(&self.buffer[..end])
+        let end = self
+            .session
+            .answer(line, place, &mut self.buffer.bytes)
+            .unwrap();
+        out.extend_from_slice(&self.buffer.bytes[..end])
     }
 }
