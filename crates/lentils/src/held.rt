@@ -81,7 +81,7 @@ fn give_back<F: Facts>(planner: &mut Planner<F>, hold: Hold)
 }
 
 impl Day<'_> {
-    // Tries to hold what is no menu, then holds the soup menu, and answers what was answered meanwhile.
+    // Tries to hold what is no menu, then holds the soup menu, and hands on what the calls answered meanwhile.
     pub fn hold(&mut self) -> io::Result<Option<Kept>> {
         println!(self.rt; "= A menu is held")?;
         self.try_hold(NO_ROLLS)?;
